@@ -1,0 +1,5 @@
+pub mod Maps
+pub mod Prints
+pub mod Rewrites
+pub mod Splices
+pub mod Starts

@@ -1,0 +1,3 @@
+// Tests with many cases, apart from the code that they try, so that it is not proved again for them.
+#[cfg(test)]
+mod map_files;
