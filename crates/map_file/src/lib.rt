@@ -9,6 +9,7 @@ mod fields;
 mod heading;
 mod kind;
 pub mod map;
+pub mod network;
 mod read;
 mod rewrite;
 pub mod walk;

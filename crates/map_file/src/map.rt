@@ -7,6 +7,7 @@ ghost use Rattle.std.specs.declared.option.Option.the-variants.{None};
 ghost use Rattle.map_format.specs.Laws.{Round-trip};
 ghost use Rattle.map_format.specs.Reading.{verdict};
 ghost use Rattle.map_format.specs.Views.{seen};
+ghost use Rattle.map_file.specs.Networks.{Shows-records};
 ghost use Rattle.map_file.specs.Steps.{left-in};
 ghost use Rattle.map_file.specs.Maps.{told, Indexed, encode-map, records-of, notices-of, leg-number};
 ghost use Rattle.map_file.specs.Writing.{write-answer, buffer-after};
@@ -42,6 +43,7 @@ impl<'a> Map<'a> {
         ensures verdict { λ r. ⌜ told r ≡ verdict (now (bytes .entry)) ⌝ }
         ensures file { λ r. ⌜ made r (λ m. now (m .bytes) ≡ now (bytes .entry)) ⌝ }
         ensures indexed { λ r. ⌜ made r Indexed ⌝ }
+        ensures network { λ r. ⌜ made r Shows-records ⌝ }
         ensures same { λ r. ⌜ made r (λ m. encode-map m ≡ now (bytes .entry)) ⌝ }
     {
         let heading = match read_heading(bytes) {

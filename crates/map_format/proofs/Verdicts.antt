@@ -1,5 +1,6 @@
 -- An accepted file, phase by phase.
 use mathlib.Core.Path.{_≡_, refl, sym, ap, _∙_}
+use mathlib.Core.Bool.{true}
 use mathlib.Core.List.{List, [], _∷_, _++_, append-assoc}
 use Prim.Native.Nat.{ℕ, suc, zero, _+_, _-_, _*_, _<_}
 use native.Mathlib.Omega.{arith}
@@ -15,7 +16,7 @@ use Rattle.map_format.specs.declared.fault.Fault.{Fault}
 use Rattle.map_format.specs.declared.heading.Heading.{Heading}
 use Rattle.map_format.specs.declared.kind.Kind.{Kind}
 use Rattle.map_format.specs.declared.kind.Kind.the-variants.{Station as Station-kind, Leg as Leg-kind}
-use Rattle.map_format.specs.Format.{Item, leg, leg-at}
+use Rattle.map_format.specs.Format.{Item, leg, leg-at, fits, leg-fits}
 use Rattle.map_format.specs.Reading.{Stretch, Contents, and-then, placed, read-heading, due-record, run, notices, verdict}
 use Rattle.map_format.specs.Walking.{record-at, records-from, the-leg}
 use Rattle.map_format.proofs.Records.{refused, due-inv, whole-leg-inv}
@@ -93,18 +94,20 @@ nth-front (y ∷ xs) ys zero x e = e
 nth-front (y ∷ xs) ys (suc i) x e = nth-front xs ys i x e
 
 -- leg i of a run of legs, by its place
-pub leg-run : (s : ℕ) (file : List ℕ) (n at : ℕ) (q : Stretch) → run Leg-kind s file n at ≡ Ok q → (i : ℕ) → i < n → (l : Leg) × (nth (q .0) i ≡ Some (at + 7 * i, leg l)) × (the-leg (record-at file (at + 7 * i)) ≡ Some l)
+pub leg-run : (s : ℕ) (file : List ℕ) (n at : ℕ) (q : Stretch) → run Leg-kind s file n at ≡ Ok q → (i : ℕ) → i < n → (l : Leg) × (nth (q .0) i ≡ Some (at + 7 * i, leg l)) × (the-leg (record-at file (at + 7 * i)) ≡ Some l) × (leg-fits s l ≡ true)
 leg-run s file zero at q e i h = absurd (omega arith)
 leg-run s file (suc n) at q e zero h =
     let j = follow-inv at (due-record s Leg-kind file at) (run Leg-kind s file n) q e in
     let p = j .0 in
-    let w = whole-leg-inv file at p (due-inv s Leg-kind file at p (j .2) .whole) .1 in
+    let d = due-inv s Leg-kind file at p (j .2) in
+    let w = whole-leg-inv file at p (d .whole) .1 in
     let here : at + 7 * 0 ≡ at = omega arith in
     let l = leg-at file at in
     let is : p .0 ≡ leg l = ap (λ (x : Item × ℕ). x .0) (sym w) in (
       l,
       ap (λ (r : List (ℕ × Item)). nth r 0) (j .4) ∙ ap (λ (x : Item). Some (at, x)) is ∙ ap (λ k. Some (k, leg l)) (sym here),
       ap (λ k. the-leg (record-at file k)) here ∙ ap the-leg (due-walk s Leg-kind file at p (j .2) ∙ ap Some (sym w)),
+      ap (fits s) (sym is) ∙ d .fit,
     )
 leg-run s file (suc n) at q e (suc i) h =
     let j = follow-inv at (due-record s Leg-kind file at) (run Leg-kind s file n) q e in
@@ -116,6 +119,7 @@ leg-run s file (suc n) at q e (suc i) h =
       r .0,
       ap (λ (x : List (ℕ × Item)). nth x (suc i)) (j .4) ∙ r .1 ∙ ap (λ k. Some (k, leg (r .0))) there,
       ap (λ k. the-leg (record-at file k)) (sym there) ∙ r .2,
+      r .3,
     )
 
 module _ (file : List ℕ) (h : Heading) (ss ls ns : Stretch) (p : Phases file h ss ls ns) where
@@ -127,7 +131,7 @@ module _ (file : List ℕ) (h : Heading) (ss ls ns : Stretch) (p : Phases file h
       run-walk Station-kind (h .stations) file (h .stations) 8 ss (p .stations-read)
       ∙ ap (λ (l : List (ℕ × Item)). ss .0 ++ l) (run-walk Leg-kind (h .stations) file (h .legs) (ss .1) ls (p .legs-read) ∙ ap (λ (l : List (ℕ × Item)). ls .0 ++ l) notices-walked)
 
-  pub leg-found : (i : ℕ) → i < h .legs → (l : Leg) × (nth (records-from file 8) (h .stations + i) ≡ Some (ss .1 + 7 * i, leg l)) × (the-leg (record-at file (ss .1 + 7 * i)) ≡ Some l)
+  pub leg-found : (i : ℕ) → i < h .legs → (l : Leg) × (nth (records-from file 8) (h .stations + i) ≡ Some (ss .1 + 7 * i, leg l)) × (the-leg (record-at file (ss .1 + 7 * i)) ≡ Some l) × (leg-fits (h .stations) l ≡ true)
   leg-found i small =
       let r = leg-run (h .stations) file (h .legs) (ss .1) ls (p .legs-read) i small in
       let long : h .stations ≡ length (ss .0) = sym (run-length Station-kind (h .stations) file (h .stations) 8 ss (p .stations-read)) in (
@@ -137,6 +141,7 @@ module _ (file : List ℕ) (h : Heading) (ss ls ns : Stretch) (p : Phases file h
             ∙ nth-behind (ss .0) (ls .0 ++ ns .0) i
             ∙ nth-front (ls .0) (ns .0) i (ss .1 + 7 * i, leg (r .0)) (r .1),
         r .2,
+        r .3,
       )
 
   pub notices-found : records-from file (ls .1) ≡ drop (h .stations + h .legs) (records-from file 8)

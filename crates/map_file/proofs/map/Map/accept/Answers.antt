@@ -2,7 +2,7 @@ use mathlib.Core.Path.{refl, sym, ap, _∙_}
 use Rattle.map_format.specs.declared.kind.Kind.the-variants.{Station as Station-kind}
 use Rattle.map_file.specs.declared.map.Map.{Map}
 use Rattle.map_format.specs.Reading.{end-of, run}
-use Rattle.map_file.proofs.Maps.{Tested, accepted, indexed, rewritten-same}
+use Rattle.map_file.proofs.Maps.{Tested, accepted, indexed, rewritten-same, shows-records}
 use Rattle.map_file.proofs.map.Map.accept.Needs as need
 
 pub returns : need.returns
@@ -19,5 +19,6 @@ returns c =
       verdict = sym (accepted m _ t);
       file = refl;
       indexed = indexed m _ t;
+      network = shows-records m _ t;
       same = rewritten-same m _ t (λ i. c .typed .bytes i .fits);
     }
