@@ -25,10 +25,7 @@ ride-fits n from to minutes l a b e =
     subst (λ (y : Leg). Leg-fits n y) same (record {
       from-fits = a;
       to-fits = b;
-      seconds-low = omega arith;
-      seconds-high = omega arith;
-      points-high = omega arith;
-      grade-high = omega arith;
+      figures = record { seconds-low = omega arith; seconds-high = omega arith; points-high = omega arith; grade-high = omega arith };
     })
 
 matrix-sound : (n : ℕ) (minutes : List ℕ) → 2 ≤ n → n ≤ 22 → Sound (matrix-meaning n minutes)

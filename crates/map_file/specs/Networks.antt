@@ -54,10 +54,7 @@ fits-leg s l e =
     record {
       from-fits = ltb-true _ _ (a .0);
       to-fits = ltb-true _ _ (a .1);
-      seconds-low = leb-true _ _ (d .0);
-      seconds-high = leb-true _ _ (d .1);
-      points-high = leb-true _ _ (c .1);
-      grade-high = leb-true _ _ (b .1);
+      figures = record { seconds-low = leb-true _ _ (d .0); seconds-high = leb-true _ _ (d .1); points-high = leb-true _ _ (c .1); grade-high = leb-true _ _ (b .1) };
     }
 
 fitting-fits : (s : ℕ) (o : Option Leg) (l : Leg) → fitting s o ≡ Some l → Leg-fits s l

@@ -11,14 +11,18 @@ pub record Meaning : Type 0 where
   pub legs : ℕ
   pub at : ℕ → Option Leg
 
--- the ranges of a leg in a network of s stations
-pub record Leg-fits (s : ℕ) (l : Leg) : Type 0 where
-  pub from-fits : l .from < s
-  pub to-fits : l .to < s
+-- the ranges of a leg's own figures
+pub record Figures (l : Leg) : Type 0 where
   pub seconds-low : 1 ≤ l .seconds
   pub seconds-high : l .seconds ≤ 43200
   pub points-high : l .points ≤ 99
   pub grade-high : l .grade ≤ 3
+
+-- the ranges of a leg in a network of s stations
+pub record Leg-fits (s : ℕ) (l : Leg) : Type 0 where
+  pub from-fits : l .from < s
+  pub to-fits : l .to < s
+  pub figures : Figures l
 
 -- the ranges of a network
 pub record Sound (m : Meaning) : Type 0 where

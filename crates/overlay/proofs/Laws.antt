@@ -17,7 +17,7 @@ use Rattle.overlay.specs.Waiting.{wait-in}
 use Rattle.overlay.specs.Sounds.{cap-shown}
 
 uncapped : (s : ℕ) (o : Option Leg) → ((l : Leg) → o ≡ Some l → Leg-fits s l) → no-harder 3 o ≡ o
-uncapped s (Some l) f = cond-true (leb (l .grade) 3) (Some l) None (le-leb (l .grade) 3 (f l refl .grade-high))
+uncapped s (Some l) f = cond-true (leb (l .grade) 3) (Some l) None (le-leb (l .grade) 3 (f l refl .figures .grade-high))
 uncapped s None f = refl
 
 pub cap-laws : (m : Meaning) → Sound m → Cap-laws m
@@ -33,7 +33,7 @@ only-later wait None = refl
 
 no-later : (s wait : ℕ) (o : Option Leg) → ((l : Leg) → o ≡ Some l → Leg-fits s l) → wait ≡ 0 → with-wait wait o ≡ o
 no-later s wait (Some l) f e =
-    let same : min 43200 (l .seconds + wait) ≡ l .seconds = omega (arith, f l refl .seconds-high) in
+    let same : min 43200 (l .seconds + wait) ≡ l .seconds = omega (arith, f l refl .figures .seconds-high) in
     λ t. Some (record { from = l .from; to = l .to; seconds = same t; points = l .points; grade = l .grade })
 no-later s wait None f e = refl
 

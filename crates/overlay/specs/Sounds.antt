@@ -41,10 +41,12 @@ later-fits : (s wait : ℕ) (l : Leg) → Leg-fits s l → Leg-fits s (later wai
 later-fits s wait l f = record {
   from-fits = f .from-fits;
   to-fits = f .to-fits;
-  seconds-low = omega (arith, f .seconds-low);
-  seconds-high = omega arith;
-  points-high = f .points-high;
-  grade-high = f .grade-high;
+  figures = record {
+    seconds-low = omega (arith, f .figures .seconds-low);
+    seconds-high = omega arith;
+    points-high = f .figures .points-high;
+    grade-high = f .figures .grade-high;
+  };
 }
 
 delayed-fits : (s wait : ℕ) (o : Option Leg) (l : Leg) → ((x : Leg) → o ≡ Some x → Leg-fits s x) → with-wait wait o ≡ Some l → Leg-fits s l

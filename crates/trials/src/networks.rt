@@ -27,9 +27,9 @@ L\x02\x03\x00\xC8\x01\x00L\x01\x02\x00\x64\x00\x00L\x02\x01\x00\x64\x00\x00";
 // The seconds of the first nine leg numbers, 0 where there is nothing.
 fn seconds<N: Network>(net: &N) -> [u16; 9] {
     let mut row = [0; 9];
-    for (place, number) in row.iter_mut().zip(0u16..9) {
+    for number in 0..9u16 {
         if let Some(leg) = net.leg_at(number) {
-            *place = leg.seconds;
+            row[usize::from(number)] = leg.seconds;
         }
     }
     row
@@ -60,23 +60,28 @@ fn map_shows() -> Result<(), Fail> {
 fn marks() -> Result<(), Fail> {
     let file = *MOUNTAIN;
     let mut shut = Closures::new(Map::accept(&file)?);
-    check_eq(shut.count(), 0)?;
-    check_eq(shut.shut(511), Ok(()))?;
-    check_eq(shut.shut(6), Ok(()))?;
-    check_eq(shut.shut(512), Err(Refusal::OverlayOutOfRange))?;
-    check_eq(shut.open(512), Err(Refusal::OverlayOutOfRange))?;
-    check_eq(shut.is_shut(512), Err(Refusal::OverlayOutOfRange))?;
-    check_eq(
-        (shut.is_shut(511), shut.is_shut(6), shut.is_shut(5)),
-        (Ok(true), Ok(true), Ok(false)),
-    )?;
-    check_eq(seconds(&shut), [300, 500, 400, 200, 100, 100, 0, 0, 0])?;
-    check_eq(shut.shut(4), Ok(()))?;
-    check_eq(shut.shut(4), Ok(()))?;
-    check_eq(shut.count(), 3)?;
-    check_eq(seconds(&shut), [300, 500, 400, 200, 0, 100, 0, 0, 0])?;
-    check_eq(shut.open(4), Ok(()))?;
-    check_eq(shut.count(), 2)?;
+    let refused = Err(Refusal::OverlayOutOfRange);
+    let cases = [
+        (true, 511, Ok(true), 1, 100),
+        (true, 6, Ok(true), 2, 100),
+        (true, 512, refused, 2, 100),
+        (false, 512, refused, 2, 100),
+        (true, 4, Ok(true), 3, 0),
+        (true, 4, Ok(true), 3, 0),
+        (false, 4, Ok(false), 2, 100),
+        (false, 5, Ok(false), 2, 100),
+    ];
+    for (shuts, number, held, count, fifth) in cases {
+        let answer = if shuts {
+            shut.shut(number)
+        } else {
+            shut.open(number)
+        };
+        check_eq(answer.is_ok(), held.is_ok())?;
+        check_eq(shut.is_shut(number), held)?;
+        check_eq(shut.count(), count)?;
+        check_eq(seconds(&shut), [300, 500, 400, 200, fifth, 100, 0, 0, 0])?;
+    }
     check_eq(
         seconds(&shut.into_below()),
         [300, 500, 400, 200, 100, 100, 0, 0, 0],
@@ -198,15 +203,16 @@ fn matrix_shows() -> Result<(), Fail> {
 fn three_overlays() -> Result<(), Fail> {
     let file = *MOUNTAIN;
     let rides = RIDES;
-    let one = on_top(Map::accept(&file)?)?;
-    check_eq(seconds(&one), [300, 0, 400, 260, 0, 100, 0, 0, 0])?;
-    check_eq((one.station_count(), one.leg_count()), (4, 6))?;
-    let other = below(Map::accept(&file)?)?;
-    check_eq(seconds(&other), [300, 0, 400, 260, 0, 100, 0, 0, 0])?;
-    let one = on_top(BusMatrix::accept(3, &rides)?)?;
-    check_eq(seconds(&one), [0, 600, 1200, 1860, 0, 0, 300, 43_200, 0])?;
-    let other = below(BusMatrix::accept(3, &rides)?)?;
-    check_eq(seconds(&other), [0, 600, 1200, 1860, 0, 0, 300, 43_200, 0])
+    check_orders(Map::accept(&file)?, [300, 0, 400, 260, 0, 100, 0, 0, 0])?;
+    check_orders(
+        BusMatrix::accept(3, &rides)?,
+        [0, 600, 1200, 1860, 0, 0, 300, 43_200, 0],
+    )
+}
+
+fn check_orders<N: Network + Copy>(net: N, expected: [u16; 9]) -> Result<(), Fail> {
+    check_eq(seconds(&on_top(net)?), expected)?;
+    check_eq(seconds(&below(net)?), expected)
 }
 
 // Closures on top, waits at the bottom.

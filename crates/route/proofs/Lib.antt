@@ -1,0 +1,17 @@
+pub mod Ascents
+pub mod Bests
+pub mod Certify
+pub mod Counting
+pub mod Deviations
+pub mod Fronts
+pub mod Joins
+pub mod Label
+pub mod Lawler
+pub mod Order
+pub mod Pool
+pub mod Queue
+pub mod Rows
+pub mod Runs
+pub mod Settle
+pub mod Stems
+pub mod Walks
