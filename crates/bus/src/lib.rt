@@ -1,4 +1,6 @@
 // A bus network: the minutes from stop to stop, in a matrix that is lent.
+#![tactic(auto)]
+
 mod check;
 mod count;
 pub mod matrix;

@@ -1,4 +1,6 @@
 // How routes are compared: cost models and their laws.
+#![tactic(auto)]
+
 pub mod fare;
 pub mod model;
 pub mod points;

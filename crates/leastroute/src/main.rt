@@ -1,4 +1,6 @@
 // The least route on a map: reads a request and a map file from standard input, and prints the route or the refusal.
+#![tactic(auto)]
+
 mod answer;
 mod ranking;
 mod ride;

@@ -1,4 +1,6 @@
 // The map file: its heading and records, read, walked and written again.
+#![tactic(auto)]
+
 pub use map_format::fault::Fault;
 pub use map_format::heading::Heading;
 pub use map_format::record::{Placed, Record};

@@ -1,5 +1,7 @@
 // Checks the map file on standard input: says what is in it, or where and why it is refused, and whether writing it
 // again gives the same bytes.
+#![tactic(auto)]
+
 ghost use Rattle.std.specs.Prelude.{◌≡◌, length, IfOk};
 ghost use Rattle.map_file.specs.Maps.{encode_map};
 ghost use Rattle.mapcheck.specs.Differences.{Compared};

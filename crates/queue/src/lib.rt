@@ -1,4 +1,6 @@
 // A priority queue over a lent row of entries.
+#![tactic(auto)]
+
 mod changes;
 pub mod least;
 pub mod order;

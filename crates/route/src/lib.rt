@@ -1,5 +1,7 @@
 // Loopless routes, their rank, and the theorems on which search and ranking rest. There is nothing to run here: the
 // definitions are in specs/, and what is proved of them in proofs/.
+#![tactic(auto)]
+
 ghost use Rattle.route.specs.Certificate.{Certified};
 ghost use Rattle.route.specs.Claims.{Loopless, Parts, Ranks, Deviates, Nexts, Onward};
 ghost use Rattle.route.specs.Pool.{Pools};

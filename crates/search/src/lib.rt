@@ -1,4 +1,6 @@
 // The least route between two stations that meets nothing barred: one search for every network and every cost model.
+#![tactic(auto)]
+
 mod cost_table;
 mod find;
 mod label;

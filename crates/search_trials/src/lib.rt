@@ -1,5 +1,7 @@
 // Tests of the search for the least route: a network and cost models to ask it of, and the least route by trying all
 // lists of legs.
+#![tactic(auto)]
+
 #[cfg(test)]
 mod bounds;
 pub mod counted;

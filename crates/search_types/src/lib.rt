@@ -1,4 +1,6 @@
 // What a search is handed, and what it gives: bars, the entries of a workspace, and a route's legs.
+#![tactic(auto)]
+
 pub mod bars;
 pub mod entry;
 pub mod leg_list;

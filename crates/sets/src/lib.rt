@@ -1,2 +1,4 @@
 // Sets of small numbers.
+#![tactic(auto)]
+
 pub mod number_set;

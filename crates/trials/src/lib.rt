@@ -1,4 +1,6 @@
 // Tests with many cases, apart from the code that they try, so that it is not proved again for them.
+#![tactic(auto)]
+
 #[cfg(test)]
 mod costs;
 #[cfg(test)]
