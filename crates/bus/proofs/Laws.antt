@@ -10,14 +10,14 @@ diagonal_zero : (n i entry : ℕ) → i / n ≡ i % n → entry_fits n i entry �
 diagonal_zero n i entry same e =
     let under = (and_parts (leb entry 720) (not (eqb (i / n) (i % n)) || eqb entry 0) e).1 in
     let on = eq-eqb (i / n) (i % n) same in
-    eqb_true entry 0 (subst (λ (b : Bool). (not b || eqb entry 0) ≡ true) on under)
+    eqb-true entry 0 (subst (λ (b : Bool). (not b || eqb entry 0) ≡ true) on under)
 
 module _ (n : ℕ) (minutes : List ℕ) (size : size_fits n minutes ≡ true) (entries : entries_fit n 0 minutes ≡ true) where
   counted : stops_of n ≡ n
   counted = cond-true (count_fits n) n 2 (and_parts (count_fits n) (eqb (length minutes) (n * n)) size).0
 
   long : length minutes ≡ n * n
-  long = eqb_true (length minutes) (n * n) (and_parts (count_fits n) (eqb (length minutes) (n * n)) size).1
+  long = eqb-true (length minutes) (n * n) (and_parts (count_fits n) (eqb (length minutes) (n * n)) size).1
 
   module _ (from to : ℕ) (a : from < n) (b : to < n) where
     place_inside : from * n + to < n * n

@@ -32,7 +32,7 @@ told a b e = go (or_cases (nat_lt a.points b.points) (a.points == b.points && na
   where
     go : (nat_lt a.points b.points ≡ true) ⊎ ((a.points == b.points && nat_lt a.seconds b.seconds) ≡ true) → Cheaper a b
     go (inl p) = inl (ltb-true _ _ p)
-    go (inr q) = let h = and_parts (a.points == b.points) (nat_lt a.seconds b.seconds) q in inr (eqb_true _ _ h.0, ltb-true _ _ h.1)
+    go (inr q) = let h = and_parts (a.points == b.points) (nat_lt a.seconds b.seconds) q in inr (eqb-true _ _ h.0, ltb-true _ _ h.1)
 
 shown : (a b : Fare) → Cheaper a b → cheaper a b ≡ true
 shown a b (inl p) = or_left (nat_lt a.points b.points) (a.points == b.points && nat_lt a.seconds b.seconds) (lt-ltb _ _ p)
@@ -50,7 +50,7 @@ not_shown a b h =
     same_or x y = elim (x == y) as (λ v. (v ≡ true) ⊎ (v ≡ false)) [ true ↦ inl refl | false ↦ inr refl ]
 
     go : ((a.points == b.points) ≡ true) ⊎ ((a.points == b.points) ≡ false) → (a.points == b.points && nat_lt a.seconds b.seconds) ≡ false
-    go (inl e) = and_right (a.points == b.points) (nat_lt a.seconds b.seconds) (le-ltb _ _ (h.1 (eqb_true _ _ e)))
+    go (inl e) = and_right (a.points == b.points) (nat_lt a.seconds b.seconds) (le-ltb _ _ (h.1 (eqb-true _ _ e)))
     go (inr e) = and_left (a.points == b.points) (nat_lt a.seconds b.seconds) e
 
 not_told : (a b : Fare) → cheaper a b ≡ false → NoCheaper a b

@@ -5,12 +5,12 @@ pub use map_format::fault::Fault;
 pub use map_format::heading::Heading;
 pub use map_format::record::{Placed, Record};
 
+pub mod as_network;
 mod check;
 mod fields;
 mod heading;
 mod kind;
 pub mod map;
-pub mod network;
 mod read;
 mod rewrite;
 pub mod walk;

@@ -109,6 +109,6 @@ heading_inv file h e =
           let high = word_high (get_or file 6 0) (get_or file 7 0) (small 7) in
           let low = word_low (get_or file 6 0) (get_or file 7 0) (small 7) in
           spells file 0 (encode_heading (heading_of file)) long
-          (eqb_true _ _ m.0, (eqb_true _ _ n.0, (eqb_true _ _ n.1, (eqb_true _ _ v.0, (eqb_true _ _ v.1, (refl, (sym high, (sym low, tt))))))))
+          (eqb-true _ _ m.0, (eqb-true _ _ n.0, (eqb-true _ _ n.1, (eqb-true _ _ v.0, (eqb-true _ _ v.1, (refl, (sym high, (sym low, tt))))))))
           ∙ ap (λ (k : Heading). encode_heading k ++ drop 8 file) i.4;
     }

@@ -39,7 +39,7 @@ pub due_inv : (s : ℕ) (kind : Kind) (file : List ℕ) (at : ℕ) (p : Item × 
 due_inv s kind file at p e =
     let h = due_inv_by s (leb (length file) at) (eqb (get_or file at 0) (mark_of kind)) (whole_record kind file at) p e in
     let w = in_range_inv s (whole_record kind file at) p h.2 in
-    record { inside = leb-false _ _ h.0; marked = eqb_true _ _ h.1; whole = w.0; fit = w.1 }
+    record { inside = leb-false _ _ h.0; marked = eqb-true _ _ h.1; whole = w.0; fit = w.1 }
 
 -- the text of a whole record, and where it ends
 pub whole_text_inv : (file : List ℕ) (at : ℕ) (q : List ℕ × ℕ) → whole_text file at ≡ Some q → (q.0 ≡ part file (at + 2) (get_or file (at + 1) 0)) × (q.1 ≡ at + 2 + get_or file (at + 1) 0) × (q.1 ≤ length file)

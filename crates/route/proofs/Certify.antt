@@ -275,7 +275,7 @@ module _ {C : Type 0} (k : Costs C) (laws : Laws k) (m : Meaning) (sound : Sound
       let low : first v ≤ e = rw f at (t.lowest e l tight (omega arith) (omega arith)) in
       let ih : lower q (follow m first (length q) l.to) ≡ false = lowest_legs q l.to r (omega arith) least (omega arith) in
       cond_both (eqb e (first v)) (lower q (follow m first (length q) (leg_end (m.at (first v))))) (ltb e (first v)) (λ x. x ≡ false)
-      (λ same. rw (← eqb_true e (first v) same, u.shown) ih)
+      (λ same. rw (← eqb-true e (first v) same, u.shown) ih)
       (λ _. le-ltb e (first v) low)
 
   pub not_shorter : (q : List ℕ) (v : ℕ) → Chain m b v q goal → length q ≤ 63 → cost k m q ≡ D v → shorter q (follow m first (hops v) v) ≡ false
@@ -284,7 +284,7 @@ module _ {C : Type 0} (k : Costs C) (laws : Laws k) (m : Meaning) (sound : Sound
       let long : length (follow m first (hops v) v) ≡ hops v = follow_length m first (hops v) v in
       cond_both (eqb (length q) (length (follow m first (hops v) v))) (lower q (follow m first (hops v) v)) (ltb (length q) (length (follow m first (hops v) v))) (λ x. x ≡ false)
       (λ same.
-      let like : hops v ≡ length q = sym (eqb_true (length q) (length (follow m first (hops v) v)) same ∙ long) in
+      let like : hops v ≡ length q = sym (eqb-true (length q) (length (follow m first (hops v) v)) same ∙ long) in
       rw like (lowest_legs q v ch h eq like))
       (λ _. le-ltb (length q) (length (follow m first (hops v) v)) (omega arith))
 

@@ -17,10 +17,10 @@ use Rattle.route.proofs.Joins.{route_root}
 
 pub goes_on_is : (p : List ℕ) (j : ℕ) (g : List ℕ) → Decides (goes_on p j g) ((rest : List ℕ) × (g ≡ p ++ (j ∷ rest)))
 goes_on_is p j [] = (λ e. absurd (both_ways false refl e), λ h. absurd (omega (arith, ap length h.1, length-append p (j ∷ h.0))))
-goes_on_is [] j (x ∷ xs) = (λ e. (xs, let z = eqb_true x j e in cc), λ h. eq-eqb x j (cc h.1))
+goes_on_is [] j (x ∷ xs) = (λ e. (xs, let z = eqb-true x j e in cc), λ h. eq-eqb x j (cc h.1))
 goes_on_is (i ∷ p) j (x ∷ xs) =
     let r = goes_on_is p j xs in
-    (λ e. let y = and_parts (eqb x i) (goes_on p j xs) e in let z = r.0 y.1 in (z.0, cc (eqb_true x i y.0, z.1)), λ h. and_from (eqb x i) (goes_on p j xs) (eq-eqb x i (cc h.1)) (r.1 (h.0, cc h.1)))
+    (λ e. let y = and_parts (eqb x i) (goes_on p j xs) e in let z = r.0 y.1 in (z.0, cc (eqb-true x i y.0, z.1)), λ h. and_from (eqb x i) (goes_on p j xs) (eq-eqb x i (cc h.1)) (r.1 (h.0, cc h.1)))
 
 -- a leg is taken where some given route goes on with it
 taken_is : (given : List (List ℕ)) (p : List ℕ) (j : ℕ) → Decides (taken given p j) ((k : ℕ) × (k < length given) × HoldsAt (λ g. (rest : List ℕ) × (g ≡ p ++ (j ∷ rest))) given k)

@@ -32,7 +32,7 @@ lower_cons : (x y : ℕ) (xs ys : List ℕ) → lower (x ∷ xs) (y ∷ ys) ≡ 
 lower_cons x y xs ys h = go (cases_Bool (eqb x y))
   where
     go : (eqb x y ≡ true) ⊎ (eqb x y ≡ false) → (x < y) ⊎ ((x ≡ y) × (lower xs ys ≡ true))
-    go (inl e) = inr (eqb_true x y e, rw e at h)
+    go (inl e) = inr (eqb-true x y e, rw e at h)
     go (inr e) = inl (ltb-true x y (rw e at h))
 
 lower_less : (x y : ℕ) (xs ys : List ℕ) → x < y → lower (x ∷ xs) (y ∷ ys) ≡ true
@@ -68,7 +68,7 @@ shorter_parts : (xs ys : List ℕ) → shorter xs ys ≡ true → (length xs < l
 shorter_parts xs ys h = go (cases_Bool (eqb (length xs) (length ys)))
   where
     go : (eqb (length xs) (length ys) ≡ true) ⊎ (eqb (length xs) (length ys) ≡ false) → (length xs < length ys) ⊎ ((length xs ≡ length ys) × (lower xs ys ≡ true))
-    go (inl e) = inr (eqb_true (length xs) (length ys) e, rw e at h)
+    go (inl e) = inr (eqb-true (length xs) (length ys) e, rw e at h)
     go (inr e) = inl (ltb-true (length xs) (length ys) (rw e at h))
 
 pub shorter_less : (xs ys : List ℕ) → length xs < length ys → shorter xs ys ≡ true

@@ -8,7 +8,7 @@ use Rattle.snapshot.specs.Meanings.{Arrives, Lowest, FirstFrom, NextFrom, NextAr
 
 arrives_true : (u : ℕ) (o : Option Leg) → arrives u o ≡ true → Arrives o u
 arrives_true u None e = let z : ◌≡◌ {A = ℕ} 0 1 = cc in omega arith
-arrives_true u (Some l) e = eqb_true l.to u e
+arrives_true u (Some l) e = eqb-true l.to u e
 
 arrives_false : (u : ℕ) (o : Option Leg) → arrives u o ≡ false → Arrives o u → ⊥
 arrives_false u None e a = a

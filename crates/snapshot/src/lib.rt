@@ -2,8 +2,8 @@
 #![tactic(auto)]
 
 mod arrivals;
+pub mod as_network;
 mod copy;
 mod lists;
-pub mod network;
 mod questions;
 pub mod snapshot;

@@ -7,4 +7,4 @@ pub returns : goal.returns
 returns g c =
     let xs = c.args.entries.now in
     let is = c.is-empty.ensures in
-    (λ e. nil_from_length xs (eqb_true (length xs) 0 (sym is ∙ e)), λ e. is ∙ eq-eqb (length xs) 0 (ap length e))
+    (λ e. nil_from_length xs (eqb-true (length xs) 0 (sym is ∙ e)), λ e. is ∙ eq-eqb (length xs) 0 (ap length e))
