@@ -12,4 +12,4 @@ returns-in-Ok c =
     let whole : size - 0 ≡ size = omega arith in
     let front : take (size - 0) c.rewrite.new.out ≡ bytes =
     ap (λ n. take n c.rewrite.new.out) whole ∙ written_front bytes c.args.copy.now c.rewrite.new.out size long c.in-Ok.ensures.after in
-    (long, subst (λ (l : List ℕ). Compared l c.args.file.now c.first-difference.result) front c.first-difference.ensures)
+    (long, subst (λ (l : List ℕ). Compared l c.args.file.now c.first_difference.result) front c.first_difference.ensures)

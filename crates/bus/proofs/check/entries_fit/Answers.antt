@@ -4,13 +4,13 @@ use Rattle.bus.specs.Matrices.{entries_fit}
 use Rattle.bus.proofs.Entries.{entries_more, entries_less}
 use Rattle.bus.proofs.check.entries_fit.Goals as goal
 
-pub returns-then-not-entry-fits : goal.returns-then-not-entry-fits
-returns-then-not-entry-fits c =
-    sym (entries_less _ _ _ c.loop-place-test.true (sym c.if-not-entry-fits.ensures)) ∙ c.loop-place.invariant
+pub returns-then-not-entry_fits : goal.returns-then-not-entry_fits
+returns-then-not-entry_fits c =
+    sym (entries_less _ _ _ c.loop-place-test.true (sym c.if-not-entry_fits.ensures)) ∙ c.loop-place.invariant
 
 pub loop-place-preserved : goal.loop-place-preserved
 loop-place-preserved c =
-    sym (entries_more _ _ _ c.loop-place-test.true (sym c.if-not-entry-fits.ensures)) ∙ c.loop-place.invariant
+    sym (entries_more _ _ _ c.loop-place-test.true (sym c.if-not-entry_fits.ensures)) ∙ c.loop-place.invariant
 
 pub returns : goal.returns
 returns c =

@@ -5,4 +5,4 @@ use Rattle.leastroute.proofs.answer.answer.Goals as goal
 pub returns-in-Some : goal.returns-in-Some
 returns-in-Some c =
     let long : 4 ≤ length c.args.input.now = search rules in
-    asked c.args.input.now c.in-Some.ranking c.ride-on.result long c.in-Some.ensures c.ride-on.ensures
+    asked c.args.input.now c.in-Some.ranking c.ride_on.result long c.in-Some.ensures c.ride_on.ensures

@@ -8,5 +8,5 @@ use Rattle.leastroute.proofs.answer.ride_on.Goals as goal
 
 pub returns-in-Ok : goal.returns-in-Ok
 returns-in-Ok c =
-    subst (λ (v : Result Contents Fault). OnMap c.args.ranking v c.args.start c.args.goal c.ranked-ride.result) c.in-Ok.ensures.verdict
-    (subst (λ (m : Meaning). RankedBy c.args.ranking m c.args.start c.args.goal c.ranked-ride.result) (same_network c.in-Ok.map c.in-Ok.ensures.network) c.ranked-ride.ensures)
+    subst (λ (v : Result Contents Fault). OnMap c.args.ranking v c.args.start c.args.goal c.ranked_ride.result) c.in-Ok.ensures.verdict
+    (subst (λ (m : Meaning). RankedBy c.args.ranking m c.args.start c.args.goal c.ranked_ride.result) (same_network c.in-Ok.map c.in-Ok.ensures.network) c.ranked_ride.ensures)

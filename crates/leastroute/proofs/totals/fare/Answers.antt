@@ -5,7 +5,7 @@ use Rattle.route.specs.Routes.{leg_cost}
 use Rattle.leastroute.specs.Fares.{fare_of}
 use Rattle.leastroute.proofs.Adds.{part_more}
 use Rattle.leastroute.proofs.totals.fare.Goals as goal
-use Rattle.leastroute.proofs.totals.fare.Goals.{in-Some, in-default}
+use Rattle.leastroute.proofs.totals.fare.Goals.{in-Some, in_default}
 
 pub loop-number-preserved : goal.loop-number-preserved
 loop-number-preserved g c =
@@ -15,14 +15,14 @@ loop-number-preserved g c =
     let h : i < length legs = search rules in
     let p = part_more (λ f. f.points) refl (λ a b. refl) m legs i h in
     let s = part_more (λ f. f.seconds) refl (λ a b. refl) m legs i h in
-    elim c.match-leg-at.branch [
+    elim c.match-leg_at.branch [
       | in-Some w ↦
           let shown = ap (leg_cost points) (sym c.leg_at.ensures ∙ w.in-Some.is) in
           let a = ap (λ f. f.points) shown in
           let b = ap (λ f. f.seconds) shown in
           (omega arith, omega arith, search rules, search rules)
-      | in-default w ↦
-          let shown = ap (leg_cost points) (sym c.leg_at.ensures ∙ w.in-default.is) in
+      | in_default w ↦
+          let shown = ap (leg_cost points) (sym c.leg_at.ensures ∙ w.in_default.is) in
           let a = ap (λ f. f.points) shown in
           let b = ap (λ f. f.seconds) shown in
           (omega arith, omega arith, omega arith, omega arith)

@@ -6,8 +6,8 @@ use Rattle.map_file.specs.Writing.{spliced}
 use Rattle.map_file.proofs.Rewrites.{record_size, length_step, splice_step, encoded_end, splice_none}
 use Rattle.map_file.proofs.rewrite.put_records.Goals as goal
 
-pub put-record-requires : goal.put-record-requires
-put-record-requires c =
+pub put_record-requires : goal.put_record-requires
+put_record-requires c =
     let found = sym c.in-Some.ensures.value in
     let file = c.args.bytes.now in
     let p : Item × ℕ = (said c.in-Some.what, c.in-Some.end) in
@@ -22,11 +22,11 @@ loop-what-preserved c =
     let file = c.args.bytes.now in
     let p : Item × ℕ = (said c.in-Some.what, c.in-Some.end) in
     let rest = encode_records (records_from c.args.bytes.now c.in-Some.end) in (
-      omega (arith, length_step file c.loop-what.at p found, c.loop-what.invariant.0, c.put-record.auto.out),
-      ap (λ (l : List ℕ). spliced l c.in-Some.end rest) c.put-record.ensures ∙ splice_step file c.loop-what.at p found c.loop-what.out c.loop-what.invariant.0 ∙ c.loop-what.invariant.1,
+      omega (arith, length_step file c.loop-what.at p found, c.loop-what.invariant.0, c.put_record.auto.out),
+      ap (λ (l : List ℕ). spliced l c.in-Some.end rest) c.put_record.ensures ∙ splice_step file c.loop-what.at p found c.loop-what.out c.loop-what.invariant.0 ∙ c.loop-what.invariant.1,
     )
 
 pub returns : goal.returns
 returns c =
-    let none = encoded_end c.args.bytes.now c.loop-what.at (sym c.in-default.ensures.value) in
+    let none = encoded_end c.args.bytes.now c.loop-what.at (sym c.in_default.ensures.value) in
     sym (splice_none c.loop-what.out c.loop-what.at) ∙ ap (spliced c.loop-what.out c.loop-what.at) (sym none) ∙ c.loop-what.invariant.1

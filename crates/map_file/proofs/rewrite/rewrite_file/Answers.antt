@@ -9,12 +9,12 @@ returns-then-out-size c =
     let rs = encode_records (records_from c.args.bytes.now 8) in
     record {
       law = round_trip;
-      answer = no_room c.args.heading rs c.args.out.now c.rewritten-len-size.result c.rewritten-len-size.ensures c.if-out-size.true;
+      answer = no_room c.args.heading rs c.args.out.now c.rewritten_len-size.result c.rewritten_len-size.ensures c.if-out-size.true;
       after = refl;
     }
 
 pub returns : goal.returns
 returns c =
     let rs = encode_records (records_from c.args.bytes.now 8) in
-    let w = rewritten c.args.heading rs c.args.out.now c.put-heading.new.out c.put-records.new.out c.rewritten-len-size.result c.rewritten-len-size.ensures c.if-out-size.false c.put-heading.ensures c.put-records.ensures in
+    let w = rewritten c.args.heading rs c.args.out.now c.put_heading.new.out c.put_records.new.out c.rewritten_len-size.result c.rewritten_len-size.ensures c.if-out-size.false c.put_heading.ensures c.put_records.ensures in
     record { law = round_trip; answer = w.0; after = w.1 }

@@ -6,4 +6,4 @@ pub loop-end-preserved : goal.loop-end-preserved
 loop-end-preserved c = sym (length_step _ _ _ (sym c.in-Some.ensures.value)) ∙ c.loop-end.invariant
 
 pub returns : goal.returns
-returns c = omega (arith, c.loop-end.invariant, ap length (encoded_end c.args.bytes.now c.loop-end.at (sym c.in-default.ensures.value)))
+returns c = omega (arith, c.loop-end.invariant, ap length (encoded_end c.args.bytes.now c.loop-end.at (sym c.in_default.ensures.value)))

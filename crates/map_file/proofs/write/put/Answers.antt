@@ -8,6 +8,6 @@ returns c =
     let out = c.args.out.now in
     let bytes = c.args.bytes.now in
     let n : at + length bytes - at ≡ length bytes = omega arith in
-    ap (λ (ys : List ℕ). take at out ++ (ys ++ drop (at + length bytes - at) (drop at out))) c.copy-from-slice.ensures.after
+    ap (λ (ys : List ℕ). take at out ++ (ys ++ drop (at + length bytes - at) (drop at out))) c.copy_from_slice.ensures.after
     ∙ ap (λ k. take at out ++ (bytes ++ drop k (drop at out))) n
     ∙ ap (λ (l : List ℕ). take at out ++ (bytes ++ l)) (drop-drop (length bytes) at out)

@@ -7,8 +7,8 @@ use Rattle.overlay.proofs.leg_set.ones.Goals as goal
 pub loop-word-init : goal.loop-word-init
 loop-word-init c = sym (count_none _)
 
-pub overflow-add-n : goal.overflow-add-n
-overflow-add-n c =
+pub overflow_add-n : goal.overflow_add-n
+overflow_add-n c =
     let fits : get_or c.args.words.now c.loop-word.word-index 0 < 2 ^ 64 = search rules in
     let few = ones-le 64 _ fits in
     let high = count_high (holds c.args.words.now) (c.loop-word.word-index * 64) in

@@ -7,8 +7,8 @@ use Rattle.search.proofs.cost_table.cost_in.Goals as goal
 inside : (places : List ℕ) (station f w n : ℕ) → length places ≡ 64 → station < 64 → f ≡ station → w ≡ get_or places f 0 → place places station < n → w < n
 inside places station f w n long below ef ew h = omega (arith, ew ∙ ap (λ v. get_or places v 0) ef ∙ get_or_default places station 0 64 (omega (arith, long, below)), h)
 
-pub offset-bounds-row-from : goal.offset-bounds-row-from
-offset-bounds-row-from g c = let h : c.from-2.result < length c.args.row.now = inside c.args.places.now c.args.station c.from.result _ _ (search rules) c.requires.station c.from.ensures c.from-2.ensures c.requires.placed in omega (arith, h)
+pub offset_bounds-row-from : goal.offset_bounds-row-from
+offset_bounds-row-from g c = let h : c.from-2.result < length c.args.row.now = inside c.args.places.now c.args.station c.from.result _ _ (search rules) c.requires.station c.from.ensures c.from-2.ensures c.requires.placed in omega (arith, h)
 
 pub bounds-row-from : goal.bounds-row-from
 bounds-row-from g c = inside c.args.places.now c.args.station c.from.result _ _ (search rules) c.requires.station c.from.ensures c.from-2.ensures c.requires.placed

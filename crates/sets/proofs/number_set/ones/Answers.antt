@@ -7,8 +7,8 @@ use Rattle.sets.proofs.number_set.ones.Goals as goal
 pub loop-i-init : goal.loop-i-init
 loop-i-init c = sym (count_none _)
 
-pub overflow-add-total : goal.overflow-add-total
-overflow-add-total c =
+pub overflow_add-total : goal.overflow_add-total
+overflow_add-total c =
     let fits : get_or c.args.words.now c.loop-i.i 0 < 2 ^ 64 = search rules in
     let few = ones-le 64 _ fits in
     let high = count_high (holds c.args.words.now) (c.loop-i.i * 64) in

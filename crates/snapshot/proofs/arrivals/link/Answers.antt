@@ -3,8 +3,8 @@ use Rattle.snapshot.specs.Tables.{Linked}
 use Rattle.snapshot.proofs.Links.{nothing_there, linked_none, linked_some}
 use Rattle.snapshot.proofs.arrivals.link.Goals as goal
 
-pub offset-bounds-arrivals-to : goal.offset-bounds-arrivals-to
-offset-bounds-arrivals-to c =
+pub offset_bounds-arrivals-to : goal.offset_bounds-arrivals-to
+offset_bounds-arrivals-to c =
     let reach = c.requires.bounded c.from-place.result c.in-Some.leg c.in-Some.is in
     search rules
 
@@ -13,8 +13,8 @@ bounds-arrivals-to c =
     let reach = c.requires.bounded c.from-place.result c.in-Some.leg c.in-Some.is in
     omega arith
 
-pub offset-bounds-arrivals-to-in-Some : goal.offset-bounds-arrivals-to-in-Some
-offset-bounds-arrivals-to-in-Some c =
+pub offset_bounds-arrivals-to-in-Some : goal.offset_bounds-arrivals-to-in-Some
+offset_bounds-arrivals-to-in-Some c =
     let reach = c.requires.bounded c.from-place.result c.in-Some.leg c.in-Some.is in
     search rules
 
@@ -40,13 +40,13 @@ returns-in-Some c =
     (subst (λ k. Linked legs i (set first l.to i) (set next k (get_or first l.to 0))) (sym c.from-place.ensures)
     (linked_some legs i first next (omega arith) above l here (omega arith) (omega arith)))
 
-pub returns-in-default : goal.returns-in-default
-returns-in-default c =
+pub returns-in_default : goal.returns-in_default
+returns-in_default c =
     let legs = c.args.legs.now in
     let first = c.args.arrivals.now.first in
     let next = c.args.arrivals.now.next in
     let i = c.args.number in
     let long : length legs ≡ 512 = search rules in
-    let here : get_or legs i None ≡ None = sym (ap (λ k. get_or legs k None) c.from-place.ensures) ∙ nothing_there _ c.in-default.not-Some in
+    let here : get_or legs i None ≡ None = sym (ap (λ k. get_or legs k None) c.from-place.ensures) ∙ nothing_there _ c.in_default.not-Some in
     let above : Linked legs (suc i) first next = subst (λ k. Linked legs k first next) (add-one i) c.requires.linked in
     linked_none legs i first next (omega arith) above here

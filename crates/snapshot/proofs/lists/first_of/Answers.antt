@@ -8,5 +8,5 @@ pub returns : goal.returns
 returns c =
     let x = c.args.table.now in
     subst (FirstFrom (meaning_of x) c.args.station 0)
-    (sym (c.number-at.ensures ∙ ap (λ k. named (get_or x.first k 512)) c.from.ensures ∙ ap named (x.firsts c.args.station)))
+    (sym (c.number_at.ensures ∙ ap (λ k. named (get_or x.first k 512)) c.from.ensures ∙ ap named (x.firsts c.args.station)))
     (seek_first x.stations x.count c.args.station 0 x.legs x.wide (omega arith))

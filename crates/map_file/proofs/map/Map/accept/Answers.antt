@@ -7,18 +7,18 @@ use Rattle.map_file.proofs.map.Map.accept.Goals as goal
 
 pub returns : goal.returns
 returns c =
-    let m : Map = record { bytes = c.args.bytes; heading = c.in-Ok.heading; legs_at = c.in-ok-legs-at.legs_at; notices_at = c.in-ok-notices-at.notices_at } in
+    let m : Map = record { bytes = c.args.bytes; heading = c.in-Ok.heading; legs_at = c.in_ok-legs_at.legs_at; notices_at = c.in_ok-notices_at.notices_at } in
     let stations = c.in-Ok.heading.stations in
-    let t : Tested m c.in-ok-check-notices.field-0 = record {
+    let t : Tested m c.in_ok-check_notices.field-0 = record {
       heading_read = c.in-Ok.ensures;
-      stations_end = c.in-ok-legs-at.ensures ∙ ap (λ k. end_of (run StationKind stations c.args.bytes.now k 8)) c.from.ensures;
-      legs_end = c.in-ok-notices-at.ensures;
-      notices_end = c.in-ok-check-notices.ensures;
+      stations_end = c.in_ok-legs_at.ensures ∙ ap (λ k. end_of (run StationKind stations c.args.bytes.now k 8)) c.from.ensures;
+      legs_end = c.in_ok-notices_at.ensures;
+      notices_end = c.in_ok-check_notices.ensures;
     } in
     record {
       verdict = sym (accepted m _ t);
       file = refl;
       indexed = indexed m _ t;
       network = shows_records m _ t;
-      same = rewritten_same m _ t (λ i. (c.type-inv.bytes i).fits);
+      same = rewritten_same m _ t (λ i. (c.type_inv.bytes i).fits);
     }

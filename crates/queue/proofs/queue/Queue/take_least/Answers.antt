@@ -7,7 +7,7 @@ pub returns : goal.returns
 returns g c =
     let q = c.args.self.now in
     let row = q.row.now in
-    let least = c.place-of-least-place in
+    let least = c.place_of_least-place in
     let p = least.result in
     record {
       lent = refl;

@@ -6,5 +6,5 @@ pub returns : goal.returns
 returns g c =
     let k = g.K.CostModel.costs c.args.self.now.model.now in
     tight_told k (g.K.CostModel.laws c.args.self.now.model.now) c.args.self.now c.args.table.now c.requires.settled c.args.number c.args.leg c.requires.shown
-    (c.may-use.ensures.0 c.if-not-may-use.false) c.requires.short c.of_leg.result c.cost.result c.join-over.result c.cost-2.result
+    (c.may_use.ensures.0 c.if-not-may_use.false) c.requires.short c.of_leg.result c.cost.result c.join-over.result c.cost-2.result
     c.of_leg.ensures (c.cost.ensures (blank k)) (c.cost-2.ensures (blank k)) c.join-over.ensures c.level.result c.level.ensures

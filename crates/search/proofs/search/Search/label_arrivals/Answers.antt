@@ -40,7 +40,7 @@ loop-arrival-init g c =
     let read : get_or ls.hops c.from.result 0 ≡ hops_of ls (line_of ls ls.done) = ap (λ v. get_or ls.hops v 0) c.from.ensures
     ∙ read_hops k (network_of s) (barred_in s) s.goal _ 0 D ls c.requires.labelled (line_of ls ls.done) (labelled_line k (network_of s) (barred_in s) s.goal _ 0 D ls c.requires.labelled ls.done c.requires.line) in
     let near : hops_of ls (line_of ls ls.done) ≤ 62 = omega (arith, read, c.if-labels-from-gt62.false) in
-    (naming k (g.K.CostModel.laws c.args.self.now.model.now) s c.args.table.now c.requires.settled 0 ls c.first-arrival-arrival.result c.requires.labelled (record { in_line = c.requires.line; near = near }) c.first-arrival-arrival.ensures, refl, refl)
+    (naming k (g.K.CostModel.laws c.args.self.now.model.now) s c.args.table.now c.requires.settled 0 ls c.first_arrival-arrival.result c.requires.labelled (record { in_line = c.requires.line; near = near }) c.first_arrival-arrival.ensures, refl, refl)
 
 pub loop-arrival-preserved : goal.loop-arrival-preserved
 loop-arrival-preserved g c =
@@ -49,13 +49,13 @@ loop-arrival-preserved g c =
     let t = c.args.table.now in
     let m = network_of s in
     let was = c.loop-arrival.labels in
-    let is = c.label-leg.new.labels in
-    let after = c.label-leg.ensures in
+    let is = c.label_leg.new.labels in
+    let after = c.label_leg.ensures in
     let here = subst (λ o. Arriving m (line_of was was.done) o) c.in-Some.is c.loop-arrival.invariant.0.arriving in
     let same : line_of was was.done ≡ line_of is is.done = sym after.station ∙ ap (line_of is) (sym after.done) in (
-      naming k (g.K.CostModel.laws c.args.self.now.model.now) s t c.requires.settled (suc c.in-Some.number) is c.next-arrival-arrival.result
+      naming k (g.K.CostModel.laws c.args.self.now.model.now) s t c.requires.settled (suc c.in-Some.number) is c.next_arrival-arrival.result
           (subst (λ n. LabelledIn k s t n (suc c.in-Some.number) is) (sym after.done) after.labelled) after.current
-          (subst (λ u. FirstFrom m u (suc c.in-Some.number) c.next-arrival-arrival.result) same (next_first m (line_of was was.done) c.in-Some.number c.next-arrival-arrival.result here.1 c.next-arrival-arrival.ensures)),
+          (subst (λ u. FirstFrom m u (suc c.in-Some.number) c.next_arrival-arrival.result) same (next_first m (line_of was was.done) c.in-Some.number c.next_arrival-arrival.result here.1 c.next_arrival-arrival.ensures)),
       after.done ∙ c.loop-arrival.invariant.1,
       ap (line_of is) (sym c.loop-arrival.invariant.1) ∙ after.station ∙ ap (line_of was) c.loop-arrival.invariant.1 ∙ c.loop-arrival.invariant.2,
     )
@@ -66,7 +66,7 @@ returns g c =
     let s = c.args.self.now in
     let t = c.args.table.now in
     let ls = c.loop-arrival.labels in
-    let end = subst (λ o. Naming k s t o ls) c.in-default.is c.loop-arrival.invariant.0 in
+    let end = subst (λ o. Naming k s t o ls) c.in_default.is c.loop-arrival.invariant.0 in
     record {
       labelled = subst (λ n. LabelledIn k s t (suc n) 0 ls) c.loop-arrival.invariant.1 (labelled_next k (network_of s) (barred_in s) s.goal ls.done (network_of s).legs (table_cost k t) ls end.labelled (snapshot_sound s.network.now) (inl refl));
       done = c.loop-arrival.invariant.1;

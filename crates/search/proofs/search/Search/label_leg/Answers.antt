@@ -17,8 +17,8 @@ bounds-labels-from g c =
     let at = sym c.in-Some.ensures in
     omega (arith, c.from.ensures, to_below k laws s t c.requires.settled c.args.number ls c.requires.labelled c.requires.current c.requires.arrives l at)
 
-pub overflow-add-hops : goal.overflow-add-hops
-overflow-add-hops g c =
+pub overflow_add-hops : goal.overflow_add-hops
+overflow_add-hops g c =
     let k = g.K.CostModel.costs c.args.self.now.model.now in
     let laws = g.K.CostModel.laws c.args.self.now.model.now in
     let s = c.args.self.now in
@@ -59,8 +59,8 @@ improves-requires g c =
     let at = sym c.in-Some.ensures in
     from_below k laws s t c.requires.settled c.args.number ls c.requires.labelled c.requires.current c.requires.arrives l at
 
-pub is-tight-requires : goal.is-tight-requires
-is-tight-requires g c =
+pub is_tight-requires : goal.is_tight-requires
+is_tight-requires g c =
     let k = g.K.CostModel.costs c.args.self.now.model.now in
     let laws = g.K.CostModel.laws c.args.self.now.model.now in
     let s = c.args.self.now in
@@ -81,12 +81,12 @@ put-requires g c =
     let at = sym c.in-Some.ensures in
     let to : get_or ls.hops c.from.result 0 ≡ hops_of ls l.to = ap (λ v. get_or ls.hops v 0) c.from.ensures ∙ to_read k laws s t c.requires.settled c.args.number ls c.requires.labelled c.requires.current c.requires.arrives l at in
     let from : get_or ls.hops l.from 0 ≡ hops_of ls l.from = from_read k laws s t c.requires.settled c.args.number ls c.requires.labelled c.requires.current c.requires.arrives l at in
-    let w = c.is-tight.ensures.0 c.if-is-tight.true in
+    let w = c.is_tight.ensures.0 c.if-is_tight.true in
     let eh : get_or ls.hops c.from.result 0 + 1 ≡ hops_of ls l.to + 1 = ap (λ n. n + 1) to in
     record { station = from_below k laws s t c.requires.settled c.args.number ls c.requires.labelled c.requires.current c.requires.arrives l at; room = put_room k laws s t c.requires.settled c.args.number ls c.requires.labelled c.requires.current c.requires.arrives l at w (get_or ls.hops c.from.result 0 + 1) eh }
 
-pub returns-then-is-tight : goal.returns-then-is-tight
-returns-then-is-tight g c =
+pub returns-then-is_tight : goal.returns-then-is_tight
+returns-then-is_tight g c =
     let k = g.K.CostModel.costs c.args.self.now.model.now in
     let laws = g.K.CostModel.laws c.args.self.now.model.now in
     let s = c.args.self.now in
@@ -96,7 +96,7 @@ returns-then-is-tight g c =
     let at = sym c.in-Some.ensures in
     let to : get_or ls.hops c.from.result 0 ≡ hops_of ls l.to = ap (λ v. get_or ls.hops v 0) c.from.ensures ∙ to_read k laws s t c.requires.settled c.args.number ls c.requires.labelled c.requires.current c.requires.arrives l at in
     let from : get_or ls.hops l.from 0 ≡ hops_of ls l.from = from_read k laws s t c.requires.settled c.args.number ls c.requires.labelled c.requires.current c.requires.arrives l at in
-    let w = c.is-tight.ensures.0 c.if-is-tight.true in
+    let w = c.is_tight.ensures.0 c.if-is_tight.true in
     let eh : get_or ls.hops c.from.result 0 + 1 ≡ hops_of ls l.to + 1 = ap (λ n. n + 1) to in
     let h = get_or ls.hops c.from.result 0 + 1 in
     let so = better ls l.from h c.args.number (sym c.improves.ensures ∙ c.if-not-improves.false) in
@@ -109,8 +109,8 @@ returns-then-is-tight g c =
       station = ap (λ xs. line_of xs ls.done) c.put.ensures ∙ put_station k laws s t c.requires.settled c.args.number ls c.requires.labelled c.requires.current c.requires.arrives l at w h eh;
     }
 
-pub returns-else-is-tight : goal.returns-else-is-tight
-returns-else-is-tight g c =
+pub returns-else-is_tight : goal.returns-else-is_tight
+returns-else-is_tight g c =
     let k = g.K.CostModel.costs c.args.self.now.model.now in
     let laws = g.K.CostModel.laws c.args.self.now.model.now in
     let s = c.args.self.now in
@@ -119,7 +119,7 @@ returns-else-is-tight g c =
     let l = c.in-Some.leg in
     let at = sym c.in-Some.ensures in
     record {
-      labelled = naming_pass k laws s t c.requires.settled c.args.number ls c.requires.labelled c.requires.current c.requires.arrives l at (λ w. absurd (both_ways c.is-tight.result c.if-is-tight.false (c.is-tight.ensures.1 w)));
+      labelled = naming_pass k laws s t c.requires.settled c.args.number ls c.requires.labelled c.requires.current c.requires.arrives l at (λ w. absurd (both_ways c.is_tight.result c.if-is_tight.false (c.is_tight.ensures.1 w)));
       current = c.requires.current;
       done = refl;
       station = refl;

@@ -28,23 +28,23 @@ returns-then-place-gone g c =
       lent = refl;
     }
 
-pub returns-then-not-may-use : goal.returns-then-not-may-use
-returns-then-not-may-use g c =
+pub returns-then-not-may_use : goal.returns-then-not-may_use
+returns-then-not-may_use g c =
     let k = g.K.CostModel.costs c.args.self.now.model.now in
     let laws = g.K.CostModel.laws c.args.self.now.model.now in
     let s = c.args.self.now in
     let q = c.args.queue.now in
     let at = sym c.in-Some.ensures in
     record {
-      stage = relax_pass k laws s c.args.number q c.args.places.now c.args.last c.requires.stage c.requires.last c.requires.arrives c.in-Some.leg at c.from-from.result c.from-place.result c.from-from.ensures c.from-place.ensures (λ u. absurd (both_ways c.may-use.result c.if-not-may-use.true (c.may-use.ensures.1 u)));
+      stage = relax_pass k laws s c.args.number q c.args.places.now c.args.last c.requires.stage c.requires.last c.requires.arrives c.in-Some.leg at c.from-from.result c.from-place.result c.from-from.ensures c.from-place.ensures (λ u. absurd (both_ways c.may_use.result c.if-not-may_use.true (c.may_use.ensures.1 u)));
       taken = refl;
       gone = refl;
       room = refl;
       lent = refl;
     }
 
-pub overflow-cast-places : goal.overflow-cast-places
-overflow-cast-places g c =
+pub overflow_cast-places : goal.overflow_cast-places
+overflow_cast-places g c =
     let k = g.K.CostModel.costs c.args.self.now.model.now in
     let laws = g.K.CostModel.laws c.args.self.now.model.now in
     let s = c.args.self.now in
@@ -53,8 +53,8 @@ overflow-cast-places g c =
     let few : length (held q) ≤ s.network.now.stations = placed_most k s.network.now.stations (snapshot_sound s.network.now).stations_high (held q) c.args.places.now c.requires.stage.settles.placed in
     omega (arith, few, ap length c.held.ensures, (snapshot_sound s.network.now).stations_high)
 
-pub offset-bounds-held-place : goal.offset-bounds-held-place
-offset-bounds-held-place g c =
+pub offset_bounds-held-place : goal.offset_bounds-held-place
+offset_bounds-held-place g c =
     let k = g.K.CostModel.costs c.args.self.now.model.now in
     let laws = g.K.CostModel.laws c.args.self.now.model.now in
     let s = c.args.self.now in
@@ -89,7 +89,7 @@ returns-then-place-gt63 g c =
     let s = c.args.self.now in
     let q = c.args.queue.now in
     let at = sym c.in-Some.ensures in
-    let free = c.may-use.ensures.0 c.if-not-may-use.false in
+    let free = c.may_use.ensures.0 c.if-not-may_use.false in
     let over = relax_over k laws s c.args.number q c.args.places.now c.args.last c.requires.stage c.requires.last c.requires.arrives c.in-Some.leg at c.from-from.result c.from-place.result c.from-from.ensures c.from-place.ensures (omega (arith, c.if-place-gone.false, c.gone.ensures)) c.of_leg.result c.join-cost.result c.of_leg.ensures c.join-cost.ensures in
     record {
       stage = relax_insert k laws s c.args.number q c.args.places.now c.args.last c.requires.stage c.requires.last c.requires.arrives c.in-Some.leg at c.from-from.result c.from-place.result c.from-from.ensures c.from-place.ensures free c.join-cost.result over c.insert.new.self c.insert.ensures.gone c.insert.ensures.room (omega (arith, c.if-place-gt63.true)) c.insert.ensures.held _ (ap (λ xs. set c.args.places.now c.from-from.result (length xs)) c.held.ensures);
@@ -106,7 +106,7 @@ returns-then-before g c =
     let s = c.args.self.now in
     let q = c.args.queue.now in
     let at = sym c.in-Some.ensures in
-    let free = c.may-use.ensures.0 c.if-not-may-use.false in
+    let free = c.may_use.ensures.0 c.if-not-may_use.false in
     let over = relax_over k laws s c.args.number q c.args.places.now c.args.last c.requires.stage c.requires.last c.requires.arrives c.in-Some.leg at c.from-from.result c.from-place.result c.from-from.ensures c.from-place.ensures (omega (arith, c.if-place-gone.false, c.gone.ensures)) c.of_leg.result c.join-cost.result c.of_leg.ensures c.join-cost.ensures in
     let read = ap (λ xs. (get_or xs c.from-place.result c.index-held-place.result).cost) c.held-else-place-gt63.ensures ∙ ap (λ e. e.cost) (get_or_default (held q) c.from-place.result c.index-held-place.result (blank k) (placed_in k laws s c.args.number q c.args.places.now c.args.last c.requires.stage c.requires.last c.requires.arrives c.in-Some.leg at c.from-from.result c.from-place.result c.from-from.ensures c.from-place.ensures c.if-place-gt63.false)) in
     record {
@@ -124,7 +124,7 @@ returns-else-before g c =
     let s = c.args.self.now in
     let q = c.args.queue.now in
     let at = sym c.in-Some.ensures in
-    let free = c.may-use.ensures.0 c.if-not-may-use.false in
+    let free = c.may_use.ensures.0 c.if-not-may_use.false in
     let over = relax_over k laws s c.args.number q c.args.places.now c.args.last c.requires.stage c.requires.last c.requires.arrives c.in-Some.leg at c.from-from.result c.from-place.result c.from-from.ensures c.from-place.ensures (omega (arith, c.if-place-gone.false, c.gone.ensures)) c.of_leg.result c.join-cost.result c.of_leg.ensures c.join-cost.ensures in
     let read = ap (λ xs. (get_or xs c.from-place.result c.index-held-place.result).cost) c.held-else-place-gt63.ensures ∙ ap (λ e. e.cost) (get_or_default (held q) c.from-place.result c.index-held-place.result (blank k) (placed_in k laws s c.args.number q c.args.places.now c.args.last c.requires.stage c.requires.last c.requires.arrives c.in-Some.leg at c.from-from.result c.from-place.result c.from-from.ensures c.from-place.ensures c.if-place-gt63.false)) in
     record {

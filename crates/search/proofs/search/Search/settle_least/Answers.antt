@@ -9,16 +9,16 @@ use Rattle.snapshot.specs.Sounds.{snapshot_sound}
 use Rattle.std.proofs.lemmas.List.{get_or_default}
 use Rattle.search.proofs.search.Search.settle_least.Goals as goal
 
-pub overflow-cast-places : goal.overflow-cast-places
-overflow-cast-places g c =
+pub overflow_cast-places : goal.overflow_cast-places
+overflow_cast-places g c =
     let k = g.K.CostModel.costs c.args.self.now.model.now in
     let s = c.args.self.now in
     let q = c.args.queue.now in
     let sound = snapshot_sound s.network.now in
     omega (arith, c.requires.place, placed_most k (network_of s).stations sound.stations_high (held q) _ c.requires.stage.settles.placed, sound.stations_high)
 
-pub overflow-cast-places-2 : goal.overflow-cast-places-2
-overflow-cast-places-2 g c =
+pub overflow_cast-places-2 : goal.overflow_cast-places-2
+overflow_cast-places-2 g c =
     let k = g.K.CostModel.costs c.args.self.now.model.now in
     let s = c.args.self.now in
     let q = c.args.queue.now in
@@ -34,8 +34,8 @@ bounds-places-from-2 g c =
     let fits = c.requires.stage.settles.placed.fits (gone q - 1) (omega (arith, c.requires.last.some, gone_within q)) in
     omega (arith, c.from-2.ensures, ap (λ e. e.station) last, fits, (snapshot_sound s.network.now).stations_high)
 
-pub relax-arrivals-requires : goal.relax-arrivals-requires
-relax-arrivals-requires g c =
+pub relax_arrivals-requires : goal.relax_arrivals-requires
+relax_arrivals-requires g c =
     let k = g.K.CostModel.costs c.args.self.now.model.now in
     let q = c.args.queue.now in
     let l = c.args.least in

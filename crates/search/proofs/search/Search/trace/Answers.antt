@@ -27,11 +27,11 @@ loop-i-preserved g c =
     let same : number ≡ first_of ls c.loop-i.at = ap (λ v. get_or ls.first v 0) c.from-in-loop-i.ensures in
     let room : ltb (length is) 63 ≡ true = lt-ltb (length is) 63 (omega (arith, c.loop-i.invariant.1, c.loop-i-test.true, hops, c.requires.labelled)) in
     let more : legs_of c.push.new.self ≡ is ++ number ∷ [] = c.push.ensures.legs ∙ cond-true (ltb (length is) 63) (is ++ number ∷ []) is room in
-    let low : c.end-of-at.result < 64 = subst (λ x. x < 64) (sym c.end-of-at.ensures) (end_below m (snapshot_sound c.args.self.now.network.now) number) in (
+    let low : c.end_of-at.result < 64 = subst (λ x. x < 64) (sym c.end_of-at.ensures) (end_below m (snapshot_sound c.args.self.now.network.now) number) in (
       low,
       ap length more ∙ length_push is number ∙ ap (λ n. n + 1) c.loop-i.invariant.1,
-      follow_step m (first_of ls) is _ _ (hops_of ls c.args.start) i c.loop-i.at c.end-of-at.result (omega (arith, c.loop-i-test.true, hops)) c.loop-i.invariant.2
-          (more ∙ ap (λ x. is ++ x ∷ []) same) (c.end-of-at.ensures ∙ ap (λ x. leg_end (m.at x)) same),
+      follow_step m (first_of ls) is _ _ (hops_of ls c.args.start) i c.loop-i.at c.end_of-at.result (omega (arith, c.loop-i-test.true, hops)) c.loop-i.invariant.2
+          (more ∙ ap (λ x. is ++ x ∷ []) same) (c.end_of-at.ensures ∙ ap (λ x. leg_end (m.at x)) same),
     )
 
 pub returns : goal.returns
