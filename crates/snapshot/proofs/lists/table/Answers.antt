@@ -13,25 +13,17 @@ invariant_of-result g c =
     let wide : length c.args.legs ≡ 512 = search rules in
     let stations = c.station_count-stations.ensures in
     let count = c.leg_count-count.ensures in
-    let lists = c.arrivals_of.ensures in (
-      wide,
-      (
-        omega (arith, s.stations_low),
-        (
-          omega (arith, s.stations_high),
-          (
-            omega (arith, s.legs_high),
-            (
-              λ i h. c.requires i ∙ s.past i (omega arith),
-              (
-                λ i. ap (none_or_fits c.station_count-stations.result) (c.requires i) ∙ ap (λ k. none_or_fits k (m.at i)) stations ∙ shown_fits m.stations (m.at i) (s.fits i),
-                (lists.firsts, (λ e. lists.nexts e (omega arith), tt)),
-              ),
-            ),
-          ),
-        ),
-      ),
-    )
+    let lists = c.arrivals_of.ensures in
+    record {
+      wide = wide;
+      low = omega (arith, s.stations_low);
+      high = omega (arith, s.stations_high);
+      few = omega (arith, s.legs_high);
+      past = λ i h. c.requires i ∙ s.past i (omega arith);
+      fits = λ i. ap (none_or_fits c.station_count-stations.result) (c.requires i) ∙ ap (λ k. none_or_fits k (m.at i)) stations ∙ shown_fits m.stations (m.at i) (s.fits i);
+      firsts = lists.firsts;
+      nexts = λ e. lists.nexts e (omega arith);
+    }
 
 pub returns : goal.returns
 returns g c =
