@@ -20,7 +20,7 @@ pub loop-i-preserved : goal.loop-i-preserved
 loop-i-preserved g c =
     let m = network_of c.args.self.now in
     let ls = c.args.labels.now in
-    let i = c.loop-i.-i in
+    let i = c.loop-i._i in
     let is = legs_of c.loop-i.route in
     let hops : get_or ls.hops c.from.result 0 ≡ hops_of ls c.args.start = read ls.hops c.args.start c.from.result (search rules) c.requires.start c.from.ensures in
     let number = get_or ls.first c.from-in-loop-i.result 0 in
@@ -38,4 +38,4 @@ pub returns : goal.returns
 returns g c =
     let ls = c.args.labels.now in
     let hops : get_or ls.hops c.from.result 0 ≡ hops_of ls c.args.start = read ls.hops c.args.start c.from.result (search rules) c.requires.start c.from.ensures in
-    follow_end (network_of c.args.self.now) (first_of ls) (legs_of c.loop-i.route) _ (hops_of ls c.args.start) c.loop-i.-i c.loop-i.at (omega (arith, hops)) c.loop-i.invariant.2
+    follow_end (network_of c.args.self.now) (first_of ls) (legs_of c.loop-i.route) _ (hops_of ls c.args.start) c.loop-i._i c.loop-i.at (omega (arith, hops)) c.loop-i.invariant.2
