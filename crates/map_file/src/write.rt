@@ -1,6 +1,6 @@
 // A heading or one record, written into the front of a buffer.
 ghost use Rattle.std.specs.Prelude.{◌≡◌, ◌+◌, ◌<◌, ◌≤◌, length, None};
-ghost use Rattle.map_format.specs.Format.{station, leg as leg-item, notice, encode, encode_heading, encode_text, size};
+ghost use Rattle.map_format.specs.Format.{station, leg as leg_item, notice, encode, encode_heading, encode_text, size};
 ghost use Rattle.map_format.specs.Views.{said};
 ghost use Rattle.map_file.specs.Writing.{heading_refusal, record_refusal, leg_refusal, write_answer, buffer_after, spliced, Short};
 
@@ -34,7 +34,7 @@ pub(crate) fn put_heading(heading: Heading, out: &mut [u8])
 
 fn put_leg(leg: Leg, out: &mut [u8], at: usize)
     requires { at + 7 ≤ length out.old }
-    ensures { out.new ≡ spliced out.old at (encode (leg-item leg)) }
+    ensures { out.new ≡ spliced out.old at (encode (leg_item leg)) }
 {
     let high = (leg.seconds / 256) as u8;
     let low = (leg.seconds % 256) as u8;
@@ -115,8 +115,8 @@ pub fn write_station(name: &[u8], out: &mut [u8]) -> Result<usize, Refusal>
 
 // Writes a leg of a map of so many stations.
 pub fn write_leg(leg: Leg, stations: u8, out: &mut [u8]) -> Result<usize, Refusal>
-    ensures answer { result ≡ write_answer (leg_refusal stations leg) (encode (leg-item leg)) out.old }
-    ensures after { out.new ≡ buffer_after result (encode (leg-item leg)) out.old }
+    ensures answer { result ≡ write_answer (leg_refusal stations leg) (encode (leg_item leg)) out.old }
+    ensures after { out.new ≡ buffer_after result (encode (leg_item leg)) out.old }
 {
     if !stations_fit(stations) {
         return Err(Refusal::CountOutOfRange);

@@ -1,5 +1,5 @@
 // Legs that are not too hard.
-ghost use Rattle.std.specs.Prelude.{◌≡◌, leb, if◌then◌else◌, nat_le};
+ghost use Rattle.std.specs.Prelude.{◌≡◌, if◌then◌else◌, nat_le};
 ghost use Rattle.overlay.specs.Laws.{CapLaws};
 ghost use Rattle.overlay.specs.Marks.{unless};
 ghost use Rattle.overlay.specs.Meanings.{capped};
@@ -37,7 +37,7 @@ impl<N: Network> GradeCap<N> {
     // Sets the ceiling, 0 to 3.
     pub fn set_ceiling(&mut self, ceiling: u8) -> Result<(), Refusal>
         ensures answer { result ≡ unless (nat_le ceiling 3) tt }
-        ensures ceiling { self.new.ceiling ≡ (if leb ceiling 3 then ceiling else self.old.ceiling) }
+        ensures ceiling { self.new.ceiling ≡ (if nat_le ceiling 3 then ceiling else self.old.ceiling) }
         ensures below { self.new.below ≡ self.old.below }
     {
         if ceiling > 3 {

@@ -1,5 +1,5 @@
 -- The kept candidates: the steps of a ranking that searches each stem once.
-use Rattle.std.proofs.Common.{◌≡◌, ℕ, ◌+◌, ◌-◌, ◌<◌, ◌≤◌, Bool, true, false, ◌⊎◌, List, [], ◌∷◌, ◌++◌, length, get_or, take, drop, sym, ap, ◌∙◌, subst, inl, inr, arith, length-append, length-take-le}
+use Rattle.std.proofs.Common.{◌≡◌, ℕ, ◌+◌, ◌<◌, ◌≤◌, Bool, true, false, ◌⊎◌, List, [], ◌∷◌, ◌++◌, length, get_or, take, drop, sym, ap, ◌∙◌, subst, inl, inr, arith, length-append, length-take-le}
 use mathlib.Core.Path.{subst⁻¹}
 use Rattle.std.specs.List.{ContainsAt as Has, insert, AllByRecursion as All}
 use Rattle.std.proofs.lemmas.List.{length-take, length_push, get_or-take, take_at}

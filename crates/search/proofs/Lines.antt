@@ -1,17 +1,16 @@
 -- The steps of phase 2, in the labels.
-use Rattle.std.proofs.Common.{◌≡◌, ℕ, suc, ◌+◌, ◌<◌, ◌≤◌, Bool, true, false, cond, ◌⊎◌, List, length, get_or, set, replicate, Some, sym, refl, ap, ◌∙◌, subst, inl, inr, arith}
+use Rattle.std.proofs.Common.{◌≡◌, ℕ, suc, ◌+◌, ◌<◌, ◌≤◌, Bool, true, cond, ◌⊎◌, get_or, set, replicate, Some, sym, refl, ap, ◌∙◌, subst, arith}
 use Rattle.network.specs.declared.leg.Leg.{Leg}
 use Rattle.network.specs.Meaning.{Meaning, Sound}
 use Rattle.cost.specs.Costs.{Costs, Laws}
 use Rattle.route.specs.Routes.{Bars}
-use Rattle.route.specs.Certificate.{Usable, Tight, Settling, Labelling}
+use Rattle.route.specs.Certificate.{Tight, Settling, Labelling}
 use Rattle.route.specs.Labels.{LabellingAlong}
 use Rattle.route.specs.Progress.{Put}
 use Rattle.route.proofs.Settle.{either, same_leg}
 use Rattle.route.proofs.LabelAlong.{label_none, label_skip, label_next, label_all, label_stands, label_settled, label_most, label_room, label_more, label_lower}
 use Rattle.search.specs.declared.labels.Labels.{Labels}
 use Rattle.search.specs.Lines.{line_of, hops_of, first_of, Labelled, unlabelled, put_label, first_label}
-use Rattle.search.specs.Tables.{place}
 use Rattle.search.proofs.Tables.{put_set}
 use Rattle.search.proofs.Places.{far}
 use Rattle.std.proofs.lemmas.List.{length-set, length-replicate, get_or_past, get_or_default, get_or-set_same, get_or-set_other}

@@ -1,18 +1,17 @@
 -- Phase 2 in its tables: what one leg does.
-use Rattle.std.proofs.Common.{◌≡◌, ℕ, suc, ◌+◌, ◌<◌, ◌≤◌, Bool, true, false, cond, eqb, ltb, ◌⊎◌, List, length, get_or, set, Some, None, Decides, Option, sym, refl, ap, ◌∙◌, subst, inl, inr, arith}
+use Rattle.std.proofs.Common.{◌≡◌, ℕ, suc, ◌+◌, ◌<◌, ◌≤◌, Bool, true, false, eqb, ltb, ◌⊎◌, length, get_or, set, Some, Decides, Option, sym, refl, ap, ◌∙◌, subst, inl, inr, arith}
 use Rattle.network.specs.declared.leg.Leg.{Leg}
 use Rattle.network.specs.Meaning.{Sound}
 use Rattle.cost.specs.Costs.{Costs, Laws}
 use Rattle.route.specs.Certificate.{Usable, Tight}
 use Rattle.route.proofs.Settle.{either}
 use Rattle.search.specs.declared.cost_table.CostTable.{CostTable}
-use Rattle.search_types.specs.declared.entry.Entry.{Entry}
 use Rattle.search.specs.declared.labels.Labels.{Labels}
 use Rattle.search.specs.declared.search.Search.{Search}
-use Rattle.search.specs.Lines.{line_of, hops_of, first_of, unlabelled, improves, put_label, Labelled}
-use Rattle.search.specs.Stages.{network_of, barred_in, table_cost, SettledIn, LabelledIn, Current, due, Arriving, left, Naming}
-use Rattle.search.specs.Tables.{blank, place, seen, turn}
-use Rattle.search.proofs.Lines.{labelled_below, read_hops, labelled_settled, labelled_stands, labelled_skip, labelled_pass, labelled_room, labelled_put, labelled_line}
+use Rattle.search.specs.Lines.{line_of, hops_of, first_of, unlabelled, improves, put_label}
+use Rattle.search.specs.Stages.{network_of, barred_in, table_cost, SettledIn, LabelledIn, Current, due, Naming}
+use Rattle.search.specs.Tables.{place, seen, turn}
+use Rattle.search.proofs.Lines.{labelled_below, read_hops, labelled_settled, labelled_stands, labelled_skip, labelled_pass, labelled_room, labelled_put}
 use Rattle.search.proofs.Relaxes.{none_before, first_arriving}
 use Rattle.search.proofs.Tables.{seen_placed, placed_below}
 use Rattle.snapshot.specs.Meanings.{Arrives, FirstFrom}

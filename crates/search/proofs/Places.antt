@@ -1,5 +1,5 @@
 -- The steps of phase 1, in the tables.
-use Rattle.std.proofs.Common.{◌≡◌, ℕ, zero, suc, ◌+◌, ◌-◌, ◌<◌, ◌≤◌, Bool, true, false, ◌⊎◌, List, [], ◌∷◌, ◌++◌, length, get_or, set, replicate, Some, sym, refl, ap, ◌∙◌, subst, inl, inr, arith}
+use Rattle.std.proofs.Common.{◌≡◌, ℕ, zero, suc, ◌+◌, ◌-◌, ◌<◌, ◌≤◌, true, false, ◌⊎◌, List, [], ◌∷◌, ◌++◌, length, get_or, set, replicate, Some, sym, refl, ap, ◌∙◌, subst, arith}
 use Rattle.network.specs.declared.leg.Leg.{Leg}
 use Rattle.network.specs.Meaning.{Meaning, Sound}
 use Rattle.cost.specs.Costs.{Costs, Laws}
@@ -8,8 +8,8 @@ use Rattle.route.specs.Certificate.{Usable, Settling}
 use Rattle.route.specs.Progress.{Put, SettlingTo}
 use Rattle.route.proofs.Settle.{either, same_leg, settle_none, settle_more, settle_all, relax_none, relax_skip, relax_more, place_stands}
 use Rattle.search_types.specs.declared.entry.Entry.{Entry}
-use Rattle.search.specs.Tables.{blank, place, seen, turn, cost_of, Placed, Swap, Settles, Settled}
-use Rattle.search.proofs.Tables.{put_set, turn_out, turn_open, seen_placed, placed_seen, placed_most, placed_room, placed_below, placed_insert, seen_insert, cost_insert, turn_insert, placed_replace, cost_replace, placed_pop, seen_pop, cost_pop, turn_pop}
+use Rattle.search.specs.Tables.{blank, place, seen, turn, cost_of, Swap, Settles, Settled}
+use Rattle.search.proofs.Tables.{turn_out, turn_open, seen_placed, placed_seen, placed_most, placed_room, placed_insert, seen_insert, cost_insert, turn_insert, placed_replace, cost_replace, placed_pop, seen_pop, cost_pop, turn_pop}
 use Rattle.std.proofs.lemmas.List.{length-set, length_push, length-replicate, get_or-replicate, get_or_past, get_or_default, get_or-set_same, get_or-set_other}
 use Rattle.std.proofs.lemmas.Bool.{cases_eq, cases_lt}
 

@@ -1,5 +1,5 @@
 -- Phase 1 in its queue: what one leg does, and what coming out does.
-use Rattle.std.proofs.Common.{◌≡◌, ℕ, suc, ◌+◌, ◌-◌, ◌<◌, ◌≤◌, Bool, true, false, cond, ltb, leb, ◌⊎◌, List, [], ◌∷◌, ◌++◌, length, get_or, set, Some, None, Option, sym, refl, ap, ◌∙◌, subst, inl, inr, arith}
+use Rattle.std.proofs.Common.{◌≡◌, ℕ, suc, ◌+◌, ◌-◌, ◌<◌, ◌≤◌, Bool, true, false, cond, ltb, leb, ◌⊎◌, List, [], ◌∷◌, ◌++◌, length, get_or, set, Some, None, Option, sym, refl, ap, ◌∙◌, subst, arith}
 use Rattle.network.specs.declared.leg.Leg.{Leg}
 use Rattle.network.specs.Meaning.{Meaning, Sound}
 use Rattle.cost.specs.Costs.{Costs, Laws}
@@ -13,13 +13,13 @@ use Rattle.search.specs.declared.search.Search.{Search}
 use Rattle.search_types.specs.Entries.{sooner}
 use Rattle.search.specs.Stages.{network_of, barred_in, Stage, Last, due, Arriving, left, Relaxing, places_after}
 use Rattle.search.specs.Tables.{blank, place, cost_of, Swap, Settles, Settled}
-use Rattle.search.proofs.Tables.{placed_most, placed_room}
+use Rattle.search.proofs.Tables.{placed_room}
 use Rattle.search.proofs.Places.{read_place, settles_end, settles_pop, settles_skip, settles_pass, settles_over, settles_insert, settles_replace}
 use Rattle.snapshot.specs.Meanings.{Arrives, FirstFrom, NextFrom, NextArrival}
 use Rattle.snapshot.specs.Sounds.{snapshot_sound}
 use Rattle.std.proofs.ByRecursion.{All-get_or}
 use Rattle.std.proofs.lemmas.List.{get_or-take, get_or-drop, get_or_push}
-use Rattle.std.proofs.lemmas.Bool.{lt-ltb, le-leb, and_from, cond-true, both_ways}
+use Rattle.std.proofs.lemmas.Bool.{lt-ltb, le-leb, and_from, cond-true}
 
 -- the entry that came out last, in the row
 pub last_held : {C : Type 0} (k : Costs C) (q : Queue (Entry C)) (last : Entry C) → Last k q last → get_or (held q) (gone q - 1) (blank k) ≡ last

@@ -1,5 +1,5 @@
 -- Where the stations stand when an entry is put in, replaced, or comes out.
-use Rattle.std.proofs.Common.{◌≡◌, ℕ, suc, ◌+◌, ◌<◌, ◌≤◌, Bool, true, false, cond, ltb, ◌⊎◌, List, [], ◌∷◌, ◌++◌, length, get_or, set, sym, refl, ap, ◌∙◌, subst, inl, inr, arith}
+use Rattle.std.proofs.Common.{◌≡◌, ℕ, suc, ◌<◌, ◌≤◌, true, cond, ltb, ◌⊎◌, List, [], ◌∷◌, ◌++◌, length, get_or, set, sym, refl, ap, ◌∙◌, subst, inl, inr, arith}
 use Rattle.cost.specs.Costs.{Costs}
 use Rattle.route.specs.Progress.{Put}
 use Rattle.route.proofs.Counting.{room_left, room_most}
@@ -7,7 +7,7 @@ use Rattle.route.proofs.Settle.{either}
 use Rattle.search_types.specs.declared.entry.Entry.{Entry}
 use Rattle.search.specs.Tables.{blank, place, seen, turn, cost_of, Placed, Swap}
 use Rattle.std.proofs.lemmas.List.{length-set, length_push, get_or_push, get_or_past, get_or_append_left, get_or-set_same, get_or-set_other}
-use Rattle.std.proofs.lemmas.Bool.{cases_eq, cases_lt, lt-ltb, le-ltb, ltb-true, ltb-false, cond-true, cond-false}
+use Rattle.std.proofs.lemmas.Bool.{cases_eq, cases_lt, lt-ltb, le-ltb, ltb-true, cond-true, cond-false}
 
 -- a write to a list, at a default of your own
 pub put_set : {A : Type 0} (xs : List A) (v : ℕ) (x d : A) → v < length xs → Put (λ y. get_or xs y d) (λ y. get_or (set xs v x) y d) v x

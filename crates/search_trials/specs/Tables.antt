@@ -1,5 +1,5 @@
 -- A table of legs as a network.
-use Rattle.std.specs.Prelude.{◌≡◌, ℕ, ◌<◌, ◌≤◌, min, Bool, true, cond, ◌&&◌, List, length, Some, None, Option, nat_le, nat_lt, slice_index_or}
+use Rattle.std.specs.Prelude.{◌≡◌, ℕ, ◌≤◌, min, Bool, cond, ◌&&◌, List, length, Some, None, Option, nat_le, nat_lt, slice_index_or}
 use Rattle.std.proofs.Common.{subst, arith}
 use Rattle.std.proofs.lemmas.Bool.{and_parts, leb-true, le-ltb, cond-false, cond_both}
 use Rattle.network.specs.Meaning.{Meaning, Sound, LegFits}

@@ -1,5 +1,5 @@
 -- The order of entries.
-use Rattle.std.specs.Prelude.{◌≡◌, Bool}
+use Rattle.std.specs.Prelude.{Bool}
 use Rattle.cost.specs.Costs.{Costs, Laws}
 use Rattle.queue.specs.Order.{Strict}
 use Rattle.queue.specs.Lexical.{lexical, lexical_strict}

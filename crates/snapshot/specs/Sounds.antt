@@ -1,5 +1,4 @@
 -- Every copy means a sound network.
-use Rattle.std.specs.Prelude.{◌≡◌, true, Some}
 use Rattle.std.proofs.Common.{ap, sym, ◌∙◌}
 use Rattle.network.specs.Meaning.{Sound}
 use Rattle.network.specs.Ranges.{in_range_fits}

@@ -1,4 +1,4 @@
-use Rattle.std.proofs.Common.{◌≡◌, suc, ◌+◌, ◌<◌, sym, subst, arith}
+use Rattle.std.proofs.Common.{◌≡◌, suc, ◌+◌, sym, subst, arith}
 use Rattle.search.specs.Lines.{Labelled}
 use Rattle.search.specs.Stages.{network_of, barred_in, table_cost, LabelledIn}
 use Rattle.search.proofs.Lines.{labelled_start, labelled_most, labelled_done}

@@ -1,4 +1,4 @@
-use Rattle.std.proofs.Common.{◌≡◌, ◌-◌, ◌≤◌}
+use Rattle.std.proofs.Common.{◌-◌}
 use Rattle.search.specs.Stages.{LabelledIn}
 use Rattle.search.proofs.search.Search.label.Given as goal
 

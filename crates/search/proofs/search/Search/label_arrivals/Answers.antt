@@ -1,6 +1,6 @@
-use Rattle.std.proofs.Common.{◌≡◌, suc, ◌≤◌, get_or, Some, None, sym, refl, ap, ◌∙◌, subst, inl, inr, arith}
+use Rattle.std.proofs.Common.{◌≡◌, suc, ◌≤◌, get_or, sym, refl, ap, ◌∙◌, subst, inl, inr, arith}
 use Rattle.search.specs.Lines.{line_of, hops_of}
-use Rattle.search.specs.Stages.{network_of, barred_in, table_cost, LabelledIn, Current, Arriving, Naming}
+use Rattle.search.specs.Stages.{network_of, barred_in, table_cost, LabelledIn, Arriving, Naming}
 use Rattle.search.proofs.Lines.{labelled_most, labelled_line, read_hops, labelled_next}
 use Rattle.search.proofs.Namings.{naming}
 use Rattle.search.proofs.Relaxes.{next_first}

@@ -1,5 +1,5 @@
 use Rattle.std.proofs.Common.{◌≡◌, suc, ◌+◌, ◌≤◌, get_or, sym, refl, ap, ◌∙◌, subst, inl, inr, arith}
-use Rattle.search.specs.Lines.{line_of, hops_of, first_of, put_label}
+use Rattle.search.specs.Lines.{line_of, hops_of, first_of}
 use Rattle.search.specs.Stages.{LabelledIn, Current}
 use Rattle.search.proofs.Namings.{to_below, from_below, to_hops, to_read, from_read, to_seen, to_stands, naming_pass, put_room, put_labelled, put_station, put_current, better, not_better}
 use Rattle.route.proofs.Settle.{either}

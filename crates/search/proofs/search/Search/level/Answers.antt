@@ -1,4 +1,4 @@
-use Rattle.std.proofs.Common.{◌≡◌, Bool, true, false, Decides, sym, refl, ◌∙◌}
+use Rattle.std.proofs.Common.{◌≡◌, true, false, Decides, sym, refl, ◌∙◌}
 use Rattle.cost.specs.Costs.{Costs, Laws}
 use Rattle.std.proofs.lemmas.Bool.{both_ways}
 use Rattle.search.proofs.search.Search.level.Goals as goal

@@ -1,4 +1,4 @@
-use Rattle.std.proofs.Common.{◌≡◌, sym, refl, ◌∙◌, subst}
+use Rattle.std.proofs.Common.{refl, ◌∙◌, subst}
 use Rattle.search.specs.Stages.{network_of, Arriving}
 use Rattle.search.proofs.Relaxes.{relaxing, next_first, last_kept}
 use Rattle.search.proofs.search.Search.relax_arrivals.Goals as goal

@@ -1,6 +1,6 @@
 use Rattle.std.proofs.Common.{◌≡◌}
-use Rattle.queue.specs.Waiting.{taken, gone, room}
-use Rattle.search.specs.Stages.{network_of, left, Relaxing}
+use Rattle.queue.specs.Waiting.{gone, room}
+use Rattle.search.specs.Stages.{left, Relaxing}
 use Rattle.search.proofs.search.Search.relax_arrivals.Given as goal
 
 abbrev pub invariant-loop-arrival : goal.invariant-loop-arrival

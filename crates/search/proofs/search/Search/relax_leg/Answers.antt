@@ -1,7 +1,6 @@
-use Rattle.std.proofs.Common.{◌≡◌, ◌<◌, ◌≤◌, Bool, true, false, length, get_or, set, sym, refl, ap, ◌∙◌, subst, inl, inr, arith}
+use Rattle.std.proofs.Common.{◌≡◌, ◌<◌, ◌≤◌, Bool, length, get_or, set, sym, refl, ap, ◌∙◌, subst, inl, inr, arith}
 use Rattle.cost.specs.Costs.{Costs}
-use Rattle.queue.specs.Waiting.{held, gone}
-use Rattle.search_types.specs.declared.entry.Entry.{Entry}
+use Rattle.queue.specs.Waiting.{held}
 use Rattle.search.specs.Tables.{blank}
 use Rattle.search.proofs.Tables.{placed_most}
 use Rattle.search.proofs.Relaxes.{relax_pass, relax_over, relax_insert, relax_replace, placed_in}

@@ -1,4 +1,4 @@
-use Rattle.std.proofs.Common.{◌≡◌, sym, refl, ap, ◌∙◌, subst, arith}
+use Rattle.std.proofs.Common.{sym, ◌∙◌, subst, arith}
 use Rattle.search.specs.Stages.{network_of, barred_in}
 use Rattle.search.specs.Tables.{Settled}
 use Rattle.search.proofs.Relaxes.{stage_pop, stage_end}

@@ -1,7 +1,7 @@
-use Rattle.std.proofs.Common.{◌≡◌, ◌-◌, ◌<◌, ◌≤◌, length, get_or, set, sym, refl, ap, ◌∙◌, subst, arith}
+use Rattle.std.proofs.Common.{◌-◌, get_or, set, sym, ap, ◌∙◌, subst, arith}
 use Rattle.queue.specs.Waiting.{held, gone}
 use Rattle.queue.proofs.Rows.{gone_within}
-use Rattle.search.specs.Stages.{network_of, Stage, places_after}
+use Rattle.search.specs.Stages.{network_of, Stage}
 use Rattle.search.specs.Tables.{blank}
 use Rattle.search.proofs.Tables.{placed_most}
 use Rattle.search.proofs.Relaxes.{last_held}

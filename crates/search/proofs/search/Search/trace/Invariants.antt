@@ -1,4 +1,4 @@
-use Rattle.std.proofs.Common.{◌≡◌, ◌+◌, ◌-◌, ◌<◌, ◌++◌, length, get_or}
+use Rattle.std.proofs.Common.{◌≡◌, ◌-◌, ◌<◌, ◌++◌, length}
 use Rattle.route.specs.Certificate.{follow}
 use Rattle.search.specs.Lines.{hops_of, first_of}
 use Rattle.search.specs.Stages.{network_of}
