@@ -1,7 +1,7 @@
 -- A row after the entry at `p` of those that wait, from `out` on and before `end`, went to `out`, and the one from there to `p`.
 use Rattle.std.proofs.Common.{◌≡◌, ℕ, ◌+◌, ◌-◌, ◌<◌, ◌≤◌, Bool, false, List, [], ◌∷◌, ◌++◌, length, get_or, take, drop, set, sym, ap, ◌∙◌, subst, ⊎_elim, arith}
 use lib.Seq.{take-set-lt}
-use Rattle.std.specs.List.{IsFirstBest, swap, AllByRecursion as All}
+use Rattle.std.specs.List.{IsFirstBest, swap, AllByRecursion}
 use Rattle.std.specs.List.Sorted.{IsPermutation}
 use Rattle.std.specs.Cmp.{IsStrictWeakOrder}
 use Rattle.std.proofs.lemmas.List.Edits.{swap_is}
@@ -78,7 +78,7 @@ module _ {E : Type 0} (xs : List E) (out p : ℕ) (low : out ≤ p) (high : p < 
   fewer = omega (arith, length-drop out xs, length-drop (out + 1) after, after_length)
 
 module _ {E : Type 0} (less : E → E → Bool) (xs : List E) (b : ℕ) (x : E) where
-  pub none_before : IsFirstBest less xs (length xs) b → x ≡ get_or xs b x → All (λ z. less z x ≡ false) xs
+  pub none_before : IsFirstBest less xs (length xs) b → x ≡ get_or xs b x → AllByRecursion (λ z. less z x ≡ false) xs
   none_before best is = All-from_get_or (λ z. less z x ≡ false) xs x (λ i h. subst (λ z. less (get_or xs i x) z ≡ false) (sym is) (best.1 i x h))
 
 -- ---- the same of a queue

@@ -1,6 +1,6 @@
 -- What a queue holds, and what a pop takes from it.
 use Rattle.std.specs.Prelude.{◌≡◌, ℕ, ◌+◌, ◌-◌, ◌<◌, ◌≤◌, Bool, false, ◌&&◌, List, [], ◌∷◌, ◌++◌, length, take, drop, Some, None, Option, ◌≢◌, nat_le, nat_lt, slice_index_or}
-use Rattle.std.specs.List.{IsFirstBest, swap, AllByRecursion as All}
+use Rattle.std.specs.List.{IsFirstBest, swap, AllByRecursion}
 use Rattle.std.specs.List.Sorted.{IsPermutation}
 use Rattle.queue.specs.declared.least.Least.{Least}
 use Rattle.queue.specs.declared.queue.Queue.{Queue}
@@ -37,7 +37,7 @@ waits_at q p = nat_le (gone q) p && nat_lt p (length (held q))
 -- e taken from the entries xs, which leaves ys: none of xs comes before it
 pub record Taken {E : Type 0} (less : E → E → Bool) (xs ys : List E) (e : E) : Type 0 where
   pub shuffled : IsPermutation xs (e ∷ ys)
-  pub least : All (λ x. less x e ≡ false) xs
+  pub least : AllByRecursion (λ x. less x e ≡ false) xs
   pub fewer : length xs ≡ length ys + 1
 
 -- the entry at a place waited, and is the last that came out; the entry that was first of those that wait stands there now

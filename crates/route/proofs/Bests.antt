@@ -1,7 +1,7 @@
 -- The first in rank of what leaves behind the roots, and that it is the next route.
 use Rattle.std.proofs.Common.{◌≡◌, ℕ, zero, suc, ◌<◌, ◌≤◌, true, false, ◌⊎◌, List, [], ◌∷◌, ◌++◌, length, take, refl, inl, inr, arith}
 use mathlib.Core.Path.{subst⁻¹}
-use Rattle.std.specs.List.{ContainsAt as Has, HoldsAt, AllByRecursion as All}
+use Rattle.std.specs.List.{ContainsAt, HoldsAt, AllByRecursion}
 use Rattle.std.proofs.lemmas.Bool.{cases_Bool, cases_lt}
 use Rattle.network.specs.Meaning.{Meaning, Sound}
 use Rattle.cost.specs.Costs.{Costs, Laws}
@@ -11,7 +11,7 @@ use Rattle.route.specs.Claims.{Nexts}
 use Rattle.route.proofs.Order.{ahead_strict, strict_one_way}
 use Rattle.route.proofs.Deviations.{deviation_sound, leading_kept, next_from, no_other, root_at}
 
-module _ (m : Meaning) (sound : Sound m) {C : Type 0} (k : Costs C) (laws : Laws k) (given : List (List ℕ)) (s t : ℕ) (routes : All (Route m no_bars s t) given) where
+module _ (m : Meaning) (sound : Sound m) {C : Type 0} (k : Costs C) (laws : Laws k) (given : List (List ℕ)) (s t : ℕ) (routes : AllByRecursion (Route m no_bars s t) given) where
   pub best_none : (P : List ℕ → Type 0) → ((p : List ℕ) → P p → ⊥) → Best k m given s t P
   best_none P n = inr (λ p h. absurd (n p h))
 
@@ -56,7 +56,7 @@ module _ (m : Meaning) (sound : Sound m) {C : Type 0} (k : Costs C) (laws : Laws
       go (inr e) = inl (b.0, b.1, second e)
 
   -- the first n roots of a given route
-  pub best_upto : (g : List ℕ) → Has given g → ((i : ℕ) → i < length g → Answer k m given s t (take i g)) → (n : ℕ) → n ≤ length g → Best k m given s t (λ p. (i : ℕ) × (i < n) × (p ≡ take i g))
+  pub best_upto : (g : List ℕ) → ContainsAt given g → ((i : ℕ) → i < length g → Answer k m given s t (take i g)) → (n : ℕ) → n ≤ length g → Best k m given s t (λ p. (i : ℕ) × (i < n) × (p ≡ take i g))
   best_upto g h answers zero l = best_none (λ p. (i : ℕ) × (i < zero) × (p ≡ take i g)) (λ p x. omega (arith, x.1))
   best_upto g h answers (suc n) l = best_fewer (λ p. ((i : ℕ) × (i < n) × (p ≡ take i g)) ⊎ (p ≡ take n g)) (λ p. (i : ℕ) × (i < suc n) × (p ≡ take i g)) (λ p x. side p x (cases_lt x.0 n)) (best_both (λ p. (i : ℕ) × (i < n) × (p ≡ take i g)) (λ p. p ≡ take n g) (best_upto g h answers n (omega arith)) (best_one (take n g) (root_at given g n h l) (answers n l)))
     where
@@ -65,21 +65,21 @@ module _ (m : Meaning) (sound : Sound m) {C : Type 0} (k : Costs C) (laws : Laws
       side p x (inr b) = let e : x.0 ≡ n = omega (arith, x.1) in inr (rw e at x.2)
 
   -- the roots of some given routes
-  pub best_over : (gs : List (List ℕ)) → ((g : List ℕ) → Has gs g → Has given g) → ((g : List ℕ) (i : ℕ) → Has given g → i < length g → Answer k m given s t (take i g)) → Best k m given s t (Root gs)
+  pub best_over : (gs : List (List ℕ)) → ((g : List ℕ) → ContainsAt gs g → ContainsAt given g) → ((g : List ℕ) (i : ℕ) → ContainsAt given g → i < length g → Answer k m given s t (take i g)) → Best k m given s t (Root gs)
   best_over [] sub answers = best_none (Root []) (λ p r. omega (arith, r.has.1))
   best_over (g ∷ gs) sub answers = best_fewer (λ p. ((i : ℕ) × (i < length g) × (p ≡ take i g)) ⊎ Root gs p) (Root (g ∷ gs)) (λ p r. side p r.route r.at r.within r.is r.has.0 r.has.1 r.has.2) (best_both (λ p. (i : ℕ) × (i < length g) × (p ≡ take i g)) (Root gs) (best_upto g here (λ i. answers g i here) (length g) (omega arith)) (best_over gs (λ x h. sub x (suc h.0, omega (arith, h.1), h.2)) answers))
     where
-      here : Has given g
+      here : ContainsAt given g
       here = sub g (0, omega arith, λ d. refl)
 
       side : (p f : List ℕ) (i : ℕ) → i < length f → p ≡ take i f → (n : ℕ) → n < length (g ∷ gs) → HoldsAt (λ (y : List ℕ). y ≡ f) (g ∷ gs) n → ((j : ℕ) × (j < length g) × (p ≡ take j g)) ⊎ Root gs p
       side p f i b e zero l at = let same : g ≡ f = at [] in inl (i, rw same b, rw same e)
       side p f i b e (suc n) l at = inr (record { route = f; has = (n, omega arith, at); at = i; within = b; is = e })
 
-  pub next_or_none : 0 < length given → ((g : List ℕ) (i : ℕ) → Has given g → i < length g → Answer k m given s t (take i g)) → ((w : List ℕ) × Next k m given s t w) ⊎ ((w : List ℕ) → Route m no_bars s t w → Has given w)
+  pub next_or_none : 0 < length given → ((g : List ℕ) (i : ℕ) → ContainsAt given g → i < length g → Answer k m given s t (take i g)) → ((w : List ℕ) × Next k m given s t w) ⊎ ((w : List ℕ) → Route m no_bars s t w → ContainsAt given w)
   next_or_none some answers = go (best_over given (λ g h. h) answers)
     where
-      go : Best k m given s t (Root given) → ((w : List ℕ) × Next k m given s t w) ⊎ ((w : List ℕ) → Route m no_bars s t w → Has given w)
+      go : Best k m given s t (Root given) → ((w : List ℕ) × Next k m given s t w) ⊎ ((w : List ℕ) → Route m no_bars s t w → ContainsAt given w)
       go (inl b) = inl (b.0, next_from m sound k laws given s t routes b.0 some b.1 b.2)
       go (inr n) = inr (no_other m given s t routes some n)
 

@@ -1,7 +1,7 @@
 -- Yen and Lawler: the next route leaves a given one at a root, and is the least of the least spurs.
 use Rattle.std.proofs.Common.{◌≡◌, ℕ, zero, suc, ◌<◌, true, false, eqb, ◌⊎◌, List, [], ◌∷◌, ◌++◌, length, get_or, take, drop, Some, Decides, sym, refl, ap, ◌∙◌, subst, inl, inr, append-nil, arith, length-append, take-append-drop, drop-cons}
 use lib.Seq.{take-append_seam, append_snoc}
-use Rattle.std.specs.List.{ContainsAt as Has, HoldsAt, AllByRecursion as All}
+use Rattle.std.specs.List.{ContainsAt, HoldsAt, AllByRecursion}
 use Rattle.std.proofs.ByRecursion.{all-has, has_get_or}
 use Rattle.std.proofs.lemmas.Bool.{cases_Bool, cases_eq, both_ways, eqb-true, eq-eqb, and_parts, and_from}
 use Rattle.std.proofs.lemmas.Bool.Decides.{Decides-by_or}
@@ -29,22 +29,22 @@ taken_is given p j = Decides-by_or (λ g. goes_on p j g) (λ g. (rest : List ℕ
 -- a given route that goes on so
 pub record Taken (given : List (List ℕ)) (p : List ℕ) (j : ℕ) : Type 0 where
   pub rest : List ℕ
-  pub has : Has given (p ++ (j ∷ rest))
+  pub has : ContainsAt given (p ++ (j ∷ rest))
 
 pub taken_by : (given : List (List ℕ)) (p : List ℕ) (j : ℕ) → taken given p j ≡ true → Taken given p j
 taken_by given p j e =
     let w = (taken_is given p j).0 e in
     let r = w.2 [] in
-    record { rest = r.0; has = subst (λ (g : List ℕ). Has given g) r.1 (has_get_or given w.0 [] w.1) }
+    record { rest = r.0; has = subst (λ (g : List ℕ). ContainsAt given g) r.1 (has_get_or given w.0 [] w.1) }
 
-pub taken_since : (given : List (List ℕ)) (p : List ℕ) (j : ℕ) (rest : List ℕ) → Has given (p ++ (j ∷ rest)) → taken given p j ≡ true
+pub taken_since : (given : List (List ℕ)) (p : List ℕ) (j : ℕ) (rest : List ℕ) → ContainsAt given (p ++ (j ∷ rest)) → taken given p j ≡ true
 taken_since given p j rest h = (taken_is given p j).1 (h.0, h.1, λ d. (rest, h.2 d))
 
 -- a root, with the leg behind it
 pub root_by : {given : List (List ℕ)} {p : List ℕ} → Root given p → (j : ℕ) × Taken given p j
 root_by {given} {p} r =
     let e : r.route ≡ p ++ (get_or r.route r.at 0 ∷ drop (suc r.at) r.route) = sym (take-append-drop r.at r.route) ∙ (rw (drop-cons r.route r.at 0 r.within, r.is) refl) in
-    (get_or r.route r.at 0, record { rest = drop (suc r.at) r.route; has = subst (λ (g : List ℕ). Has given g) e r.has })
+    (get_or r.route r.at 0, record { rest = drop (suc r.at) r.route; has = subst (λ (g : List ℕ). ContainsAt given g) e r.has })
 
 pub root_since : {given : List (List ℕ)} {p : List ℕ} {j : ℕ} → Taken given p j → Root given p
 root_since {given} {p} {j} t = record { route = p ++ (j ∷ t.rest); has = t.has; at = length p; within = omega (arith, length-append p (j ∷ t.rest)); is = sym (take-append_seam p (j ∷ t.rest)) }
@@ -57,8 +57,8 @@ pub record Covered (m : Meaning) (given : List (List ℕ)) (s t : ℕ) (w : List
   pub parts : w ≡ root ++ spur
   pub route : Route m (deviation m given s root) (end_of m s root) t spur
 
-module _ (m : Meaning) (given : List (List ℕ)) (s t : ℕ) (routes : All (Route m no_bars s t) given) where
-  the_route : (g : List ℕ) → Has given g → Route m no_bars s t g
+module _ (m : Meaning) (given : List (List ℕ)) (s t : ℕ) (routes : AllByRecursion (Route m no_bars s t) given) where
+  the_route : (g : List ℕ) → ContainsAt given g → Route m no_bars s t g
   the_route g h = all-has (Route m no_bars s t) given g routes h
 
   -- a root leads to its end
@@ -105,8 +105,8 @@ module _ (m : Meaning) (given : List (List ℕ)) (s t : ℕ) (routes : All (Rout
       go i l e free (inl y) = absurd (both_ways ((barring v met).station v) (subst (λ (x : ℕ). (barring v met).station x ≡ false) (taken_leaves p i l e (taken_by given p i y)) free) (barring_itself v met))
 
   -- from a front of w that is a given route's too, go on while some given route does
-  cover_from : (w : List ℕ) → Other m given s t w → (q p : List ℕ) → w ≡ p ++ q → (behind : List ℕ) → Has given (p ++ behind) → Covered m given s t w
-  cover_from w o [] p e [] h = absurd (o.new (subst (λ (x : List ℕ). Has given x) (sym e) h))
+  cover_from : (w : List ℕ) → Other m given s t w → (q p : List ℕ) → w ≡ p ++ q → (behind : List ℕ) → ContainsAt given (p ++ behind) → Covered m given s t w
+  cover_from w o [] p e [] h = absurd (o.new (subst (λ (x : List ℕ). ContainsAt given x) (sym e) h))
   cover_from w o [] p e (i ∷ is) h =
       let lead : Leads m no_bars s p t = subst (λ (x : List ℕ). Leads m no_bars s x t) (e ∙ append-nil p) o.route.leads in
       absurd (ends_there m no_bars s p i is t lead (the_route (p ++ (i ∷ is)) h).leads)
@@ -115,7 +115,7 @@ module _ (m : Meaning) (given : List (List ℕ)) (s t : ℕ) (routes : All (Rout
       lead : Leads m no_bars s (p ++ (j ∷ q)) t
       lead = subst (λ (x : List ℕ). Leads m no_bars s x t) e o.route.leads
 
-      go : ((is : List ℕ) → Has given ((p ++ (j ∷ [])) ++ is) → Covered m given s t w) → (taken given p j ≡ true) ⊎ (taken given p j ≡ false) → (is : List ℕ) → Has given (p ++ is) → Covered m given s t w
+      go : ((is : List ℕ) → ContainsAt given ((p ++ (j ∷ [])) ++ is) → Covered m given s t w) → (taken given p j ≡ true) ⊎ (taken given p j ≡ false) → (is : List ℕ) → ContainsAt given (p ++ is) → Covered m given s t w
       go on (inl y) is g = let x = taken_by given p j y in on x.rest (rw append_snoc x.has)
       go on (inr n) [] g = absurd (ends_there m no_bars s p j q t (subst (λ (x : List ℕ). Leads m no_bars s x t) (append-nil p) (the_route (p ++ []) g).leads) lead)
       go on (inr n) (i ∷ is) g = record { root = p; spur = j ∷ q; rooted = root_since {p = p} {j = i} (record { rest = is; has = g }); parts = e; route = spur_route p j q lead n }
@@ -134,20 +134,20 @@ lists_cases (x ∷ xs) (y ∷ ys) = go (cases_eq x y) (lists_cases xs ys)
     go (inl a) (inr n) = inr (λ e. n (cc))
     go (inr n) b = inr (λ e. n (cc))
 
-pub given_cases : (given : List (List ℕ)) (w : List ℕ) → Has given w ⊎ (Has given w → ⊥)
+pub given_cases : (given : List (List ℕ)) (w : List ℕ) → ContainsAt given w ⊎ (ContainsAt given w → ⊥)
 given_cases [] w = inr (λ h. omega (arith, h.1))
 given_cases (g ∷ gs) w = go (lists_cases g w) (given_cases gs w)
   where
-    not : (g ≡ w → ⊥) → (Has gs w → ⊥) → (k : ℕ) → k < length (g ∷ gs) → HoldsAt (λ (y : List ℕ). y ≡ w) (g ∷ gs) k → ⊥
+    not : (g ≡ w → ⊥) → (ContainsAt gs w → ⊥) → (k : ℕ) → k < length (g ∷ gs) → HoldsAt (λ (y : List ℕ). y ≡ w) (g ∷ gs) k → ⊥
     not ne no' zero l h = ne (h [])
     not ne no' (suc k) l h = no' (k, omega arith, λ d. h d)
 
-    go : (g ≡ w) ⊎ (g ≡ w → ⊥) → Has gs w ⊎ (Has gs w → ⊥) → Has (g ∷ gs) w ⊎ (Has (g ∷ gs) w → ⊥)
+    go : (g ≡ w) ⊎ (g ≡ w → ⊥) → ContainsAt gs w ⊎ (ContainsAt gs w → ⊥) → ContainsAt (g ∷ gs) w ⊎ (ContainsAt (g ∷ gs) w → ⊥)
     go (inl e) b = inl (0, omega arith, λ d. e)
     go (inr ne) (inl h) = inl (suc h.0, omega (arith, h.1), λ d. h.2 d)
     go (inr ne) (inr no') = inr (λ h. not ne no' h.0 h.1 h.2)
 
-module _ (m : Meaning) (sound : Sound m) {C : Type 0} (k : Costs C) (laws : Laws k) (given : List (List ℕ)) (s t : ℕ) (routes : All (Route m no_bars s t) given) where
+module _ (m : Meaning) (sound : Sound m) {C : Type 0} (k : Costs C) (laws : Laws k) (given : List (List ℕ)) (s t : ℕ) (routes : AllByRecursion (Route m no_bars s t) given) where
   -- under one root, the rank of two spurs is their routes' rank
   spur_rank : (p q r : List ℕ) → Root given p → Route m (deviation m given s p) (end_of m s p) t q → Route m (deviation m given s p) (end_of m s p) t r → ahead k m (p ++ q) (p ++ r) ≡ ahead k m q r
   spur_rank p q r root x y = route_root m sound k laws no_bars no_bars s t p q r (deviation_sound m given s t routes p q root x).route (deviation_sound m given s t routes p r root y).route
@@ -171,15 +171,15 @@ module _ (m : Meaning) (sound : Sound m) {C : Type 0} (k : Costs C) (laws : Laws
           go (inr none) = absurd (none c.spur c.route)
 
 -- where no root has a spur, every route is given
-pub no_other : (m : Meaning) (given : List (List ℕ)) (s t : ℕ) → All (Route m no_bars s t) given → 0 < length given → ((p : List ℕ) → Root given p → (q : List ℕ) → Route m (deviation m given s p) (end_of m s p) t q → ⊥) → (w : List ℕ) → Route m no_bars s t w → Has given w
+pub no_other : (m : Meaning) (given : List (List ℕ)) (s t : ℕ) → AllByRecursion (Route m no_bars s t) given → 0 < length given → ((p : List ℕ) → Root given p → (q : List ℕ) → Route m (deviation m given s p) (end_of m s p) t q → ⊥) → (w : List ℕ) → Route m no_bars s t w → ContainsAt given w
 no_other m given s t routes some none w r = go (given_cases given w)
   where
-    go : Has given w ⊎ (Has given w → ⊥) → Has given w
+    go : ContainsAt given w ⊎ (ContainsAt given w → ⊥) → ContainsAt given w
     go (inl h) = h
     go (inr n) = let c = deviation_covers m given s t routes w some (record { route = r; new = n }) in absurd (none c.root c.rooted c.spur c.route)
 
 -- a place in a given route is a root
-pub root_at : (given : List (List ℕ)) (g : List ℕ) (i : ℕ) → Has given g → i < length g → Root given (take i g)
+pub root_at : (given : List (List ℕ)) (g : List ℕ) (i : ℕ) → ContainsAt given g → i < length g → Root given (take i g)
 root_at given g i h l = record { route = g; has = h; at = i; within = l; is = refl }
 
 pub deviates : Deviates

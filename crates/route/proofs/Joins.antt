@@ -1,6 +1,6 @@
 -- Costs of legs one after another, and the rank of what has a common root.
 use Rattle.std.proofs.Common.{◌≡◌, ℕ, ◌+◌, ◌<◌, ◌≤◌, true, false, eqb, ltb, ◌⊎◌, List, [], ◌∷◌, ◌++◌, length, Some, sym, refl, ap, ◌∙◌, inl, inr, append-nil, one-add, arith, length-append}
-use Rattle.std.specs.List.{AllByRecursion as All}
+use Rattle.std.specs.List.{AllByRecursion}
 use Rattle.std.proofs.lemmas.Bool.{cases_Bool, eq-eqb}
 use Rattle.std.proofs.lemmas.Bool.Decides.{nat_tests}
 use Rattle.network.specs.declared.leg.Leg.{Leg}
@@ -13,7 +13,7 @@ use Rattle.route.proofs.Order.{strict_one_way, shorter_strict, ahead_strict, sho
 
 -- each number has a leg
 abbrev pub Real : Meaning → List ℕ → Type 0
-Real m is = All (λ i. (l : Leg) × (m.at i ≡ Some l)) is
+Real m is = AllByRecursion (λ i. (l : Leg) × (m.at i ≡ Some l)) is
 
 pub leads_real : (m : Meaning) (b : Bars) (a : ℕ) (is : List ℕ) (goal : ℕ) → Leads m b a is goal → Real m is
 leads_real m b a [] goal h = tt

@@ -2,7 +2,7 @@
 use Rattle.std.proofs.Common.{◌≡◌, ℕ, ◌<◌, ◌≤◌, Bool, true, false, ◌&&◌, ◌||◌, eqb, ◌⊎◌, List, [], ◌∷◌, ◌++◌, length, take, drop, sym, refl, ap, ◌∙◌, subst, inl, inr, arith, length-append, take-append-drop, length-take-le, take-take}
 use mathlib.Core.Path.{fun_ext}
 use lib.Seq.{take-append_seam, take-append-le}
-use Rattle.std.specs.List.{ContainsAt as Has}
+use Rattle.std.specs.List.{ContainsAt}
 use Rattle.std.proofs.ByRecursion.{has_push_cases}
 use Rattle.std.proofs.lemmas.Bool.{cases_Bool, cases_lt, both_ways}
 use Rattle.network.specs.Meaning.{Meaning}
@@ -35,7 +35,7 @@ deviation_kept m given s w r h =
     let F : (ℕ → Bool) → Bars = λ f. record { station = (passed m no_bars s r).station; leg = f } in
     ap F (fun_ext (λ j. taken_push given w r j (h j)))
 
-module _ (m : Meaning) (given : List (List ℕ)) (s : ℕ) (g : List ℕ) (at : ℕ) (q : List ℕ) (has : Has given g) (l : at < length g) where
+module _ (m : Meaning) (given : List (List ℕ)) (s : ℕ) (g : List ℕ) (at : ℕ) (q : List ℕ) (has : ContainsAt given g) (l : at < length g) where
   -- short of the deviation the new route goes on as the given one does
   kept_before : (r : List ℕ) → length r < at → deviation m (given ++ (take at g ++ q) ∷ []) s r ≡ deviation m given s r
   kept_before r b = deviation_kept m given s (take at g ++ q) r on
@@ -45,7 +45,7 @@ module _ (m : Meaning) (given : List (List ℕ)) (s : ℕ) (g : List ℕ) (at : 
           let same : goes_on r j (take at g ++ q) ≡ goes_on r j (take at g ++ drop at g) = goes_on_front r j (take at g) q (drop at g) (omega (arith, length-take-le at g (omega arith))) in
           let there : goes_on r j g ≡ true = ap (goes_on r j) (sym (take-append-drop at g)) ∙ sym same ∙ e in
           let x = (goes_on_is r j g).0 there in
-          taken_since given r j x.0 (subst (λ (y : List ℕ). Has given y) x.1 has)
+          taken_since given r j x.0 (subst (λ (y : List ℕ). ContainsAt given y) x.1 has)
 
   -- and a root that the new route has not keeps its bars
   kept_apart : (r : List ℕ) → (take (length r) (take at g ++ q) ≡ r → length r < length (take at g ++ q) → ⊥) → deviation m (given ++ (take at g ++ q) ∷ []) s r ≡ deviation m given s r
@@ -58,7 +58,7 @@ onward m given s g at q has l h i inside within = from (has_push_cases given v h
     v = take at g ++ q
 
     Kept : Type 0
-    Kept = (f : List ℕ) × (j : ℕ) × Has given f × (j < length f) × (take i h ≡ take j f) × (deviation m (given ++ v ∷ []) s (take i h) ≡ deviation m given s (take i h))
+    Kept = (f : List ℕ) × (j : ℕ) × ContainsAt given f × (j < length f) × (take i h ≡ take j f) × (deviation m (given ++ v ∷ []) s (take i h) ≡ deviation m given s (take i h))
 
     New : Type 0
     New = (j : ℕ) × (at ≤ j) × (j < length v) × (take i h ≡ take j v)
@@ -69,12 +69,12 @@ onward m given s g at q has l h i inside within = from (has_push_cases given v h
     early : i < at → deviation m (given ++ v ∷ []) s (take i h) ≡ deviation m given s (take i h)
     early b = kept_before m given s g at q has l (take i h) (omega (arith, size))
 
-    late : Has given h → at ≤ i → (i < length v) ⊎ (length v ≤ i) → (take i v ≡ take i h) ⊎ (take i v ≡ take i h → ⊥) → Kept ⊎ New
+    late : ContainsAt given h → at ≤ i → (i < length v) ⊎ (length v ≤ i) → (take i v ≡ take i h) ⊎ (take i v ≡ take i h → ⊥) → Kept ⊎ New
     late hg b (inl c) (inl e) = inr (i, b, c, sym e)
     late hg b (inl c) (inr n) = inl (h, i, hg, within, refl, kept_apart m given s g at q has l (take i h) (λ e _. n (rw size at e)))
     late hg b (inr c) d = inl (h, i, hg, within, refl, kept_apart m given s g at q has l (take i h) (λ _ k. omega (arith, size)))
 
-    from : Has given h ⊎ (v ≡ h) → (i < at) ⊎ (at ≤ i) → Kept ⊎ New
+    from : ContainsAt given h ⊎ (v ≡ h) → (i < at) ⊎ (at ≤ i) → Kept ⊎ New
     from (inl hg) (inl b) = inl (h, i, hg, within, refl, early b)
     from (inl hg) (inr b) = late hg b (cases_lt i (length v)) (lists_cases (take i v) (take i h))
     from (inr e) (inl b) = inl (g, i, has, omega arith, sym (ap (take i) e) ∙ take-append-le i (take at g) q (omega (arith, length-take-le at g (omega arith))) ∙ take-take i at g (omega arith), early b)

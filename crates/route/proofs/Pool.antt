@@ -1,7 +1,7 @@
 -- The kept candidates: the steps of a ranking that searches each stem once.
 use Rattle.std.proofs.Common.{◌≡◌, ℕ, ◌+◌, ◌<◌, ◌≤◌, Bool, true, false, ◌⊎◌, List, [], ◌∷◌, ◌++◌, length, get_or, take, drop, sym, ap, ◌∙◌, subst, inl, inr, arith, length-append, length-take-le}
 use mathlib.Core.Path.{subst⁻¹}
-use Rattle.std.specs.List.{ContainsAt as Has, insert, AllByRecursion as All}
+use Rattle.std.specs.List.{ContainsAt, insert, AllByRecursion}
 use Rattle.std.proofs.lemmas.List.{length-take, length_push, get_or-take, take_at}
 use Rattle.std.proofs.ByRecursion.{All-take, All-drop, All-append, All-push, All-weaker, all-has, all_has_itself, All-from_get_or, has_append_left, has_push, has_push_cases}
 use Rattle.std.proofs.lemmas.Bool.{cases_Bool, cases_lt, both_ways}
@@ -15,7 +15,7 @@ use Rattle.route.proofs.Order.{strict_one_way, ahead_strict}
 use Rattle.route.proofs.Ascents.{has_cons_cases, has_inserted_new, ascending_take, before_from, ascending_inserted, held_taken, held_inserted}
 use Rattle.route.proofs.Stems.{stem_push, newest_push, stem_front, stem_sound, stem_none, stem_onward, stem_next}
 
-pub ascending_push : {X : Type 0} (r : X → X → Bool) (xs : List X) (w : X) → Ascending r xs → All (λ x. r x w ≡ true) xs → Ascending r (xs ++ w ∷ [])
+pub ascending_push : {X : Type 0} (r : X → X → Bool) (xs : List X) (w : X) → Ascending r xs → AllByRecursion (λ x. r x w ≡ true) xs → Ascending r (xs ++ w ∷ [])
 ascending_push r [] w h a = (tt, tt)
 ascending_push r (x ∷ xs) w h a = (All-push (λ y. r x y ≡ true) xs w h.0 a.0, ascending_push r xs w h.1 a.1)
 
@@ -35,7 +35,7 @@ module _ (m : Meaning) (sound : Sound m) {C : Type 0} (k : Costs C) (laws : Laws
       go p (inl a) = inl a
       go p (inr b) = inr (b.0, omega (arith, b.1), b.2, b.3)
 
-  module _ (given : List (List ℕ)) (routes : All (Route m no_bars s t) given) where
+  module _ (given : List (List ℕ)) (routes : AllByRecursion (Route m no_bars s t) given) where
     -- the stem at j is searched, and what was held is held
     one_more : (old new : List Candidate) (j : ℕ) → ((v : List ℕ) → Held (ahead k m) (room given) old v → Held (ahead k m) (room given) new v) → Searched k m given s t new (take j (newest given)) → ((p : List ℕ) → Stem given p → Searched k m given s t old p ⊎ Ahead given j p) → (p : List ℕ) → Stem given p → Searched k m given s t new p ⊎ Ahead given (j + 1) p
     one_more old new j keep here stems p st = go (stems p st)
@@ -78,7 +78,7 @@ module _ (m : Meaning) (sound : Sound m) {C : Type 0} (k : Costs C) (laws : Laws
         member : Member m given s t c
         member = record { other = stem_sound m s t given routes (take j (newest given)) q stem least.route; within = omega (arith, size, length-append (take j (newest given)) q, least.route.some); stem = subst⁻¹ (λ (x : List ℕ). Stem given x) (take_at (take j (newest given)) q j size) stem }
 
-        before : All (λ y. sooner (ahead k m) y c ≡ true) (take i pool)
+        before : AllByRecursion (λ y. sooner (ahead k m) y c ≡ true) (take i pool)
         before = All-from_get_or (λ y. sooner (ahead k m) y c ≡ true) (take i pool) d (λ n b. let b' : n < i = omega (arith, length-take-le i pool le) in subst⁻¹ (λ (y : Candidate). sooner (ahead k m) y c ≡ true) (get_or-take i pool n d b') (below n b'))
 
         up : Ascending (sooner (ahead k m)) (insert pool i c)
@@ -102,7 +102,7 @@ module _ (m : Meaning) (sound : Sound m) {C : Type 0} (k : Costs C) (laws : Laws
         not_first : (v : List ℕ) → Held (ahead k m) (room given) (c ∷ rest) v → ahead k m v c.legs ≡ false
         not_first v (inl a) = subst (λ (x : List ℕ). ahead k m x c.legs ≡ false) a.2 (side (has_cons_cases rest c a.0 a.1))
           where
-            side : Has rest a.0 ⊎ (c ≡ a.0) → ahead k m a.0.legs c.legs ≡ false
+            side : ContainsAt rest a.0 ⊎ (c ≡ a.0) → ahead k m a.0.legs c.legs ≡ false
             side (inl b) = strict_one_way o c.legs a.0.legs (all-has (λ y. sooner (ahead k m) c y ≡ true) rest a.0 h.rising.0 b)
             side (inr e) = subst (λ (x : Candidate). ahead k m x.legs c.legs ≡ false) e (o.never c.legs)
         not_first v (inr a) = strict_one_way o c.legs v a.1.0
@@ -112,7 +112,7 @@ module _ (m : Meaning) (sound : Sound m) {C : Type 0} (k : Costs C) (laws : Laws
         go p (inr none) = inr none
 
     -- no candidate: every route is given
-    pub kept_over : (j : ℕ) → length given < 16 → fronts given ≤ j → Kept k m given s t [] j → (w : List ℕ) → Route m no_bars s t w → Has given w
+    pub kept_over : (j : ℕ) → length given < 16 → fronts given ≤ j → Kept k m given s t [] j → (w : List ℕ) → Route m no_bars s t w → ContainsAt given w
     kept_over j some l h = stem_none m s t given routes (λ p st. go p (all_searched [] j l h p st))
       where
         nothing : (v : List ℕ) → Held (ahead k m) (room given) [] v → ⊥
@@ -125,7 +125,7 @@ module _ (m : Meaning) (sound : Sound m) {C : Type 0} (k : Costs C) (laws : Laws
 
     -- the first candidate is given: its fronts from its deviation on are to be searched
     pub kept_give : (c : Candidate) (rest : List Candidate) (j : ℕ) → fronts given ≤ j → Kept k m given s t (c ∷ rest) j → Kept k m (given ++ c.legs ∷ []) s t rest c.at
-    kept_give c rest j l h = record { members = All-weaker (Has rest) (Member m (given ++ c.legs ∷ []) s t) (λ x b. still x b) rest (all_has_itself rest); rising = h.rising.1; few = omega (arith, h.few, length_push given c.legs); stems = λ p st. from p st (stem_onward m s t given c.legs c.at here.within here.stem p st) }
+    kept_give c rest j l h = record { members = All-weaker (ContainsAt rest) (Member m (given ++ c.legs ∷ []) s t) (λ x b. still x b) rest (all_has_itself rest); rising = h.rising.1; few = omega (arith, h.few, length_push given c.legs); stems = λ p st. from p st (stem_onward m s t given c.legs c.at here.within here.stem p st) }
       where
         o : Strict (ahead k m)
         o = ahead_strict m k laws
@@ -133,32 +133,32 @@ module _ (m : Meaning) (sound : Sound m) {C : Type 0} (k : Costs C) (laws : Laws
         here : Member m given s t c
         here = h.members.0
 
-        still : (x : Candidate) → Has rest x → Member m (given ++ c.legs ∷ []) s t x
+        still : (x : Candidate) → ContainsAt rest x → Member m (given ++ c.legs ∷ []) s t x
         still x b = record { other = record { route = mem.other.route; new = λ y. go (has_push_cases given c.legs x.legs y) }; within = mem.within; stem = stem_push given c.legs (take x.at x.legs) here.other.route.some mem.stem }
           where
             mem : Member m given s t x
             mem = all-has (Member m given s t) rest x h.members.1 b
 
-            go : Has given x.legs ⊎ (c.legs ≡ x.legs) → ⊥
+            go : ContainsAt given x.legs ⊎ (c.legs ≡ x.legs) → ⊥
             go (inl a) = mem.other.new a
             go (inr e) = both_ways (ahead k m c.legs c.legs) (o.never c.legs) (subst⁻¹ (λ (z : List ℕ). ahead k m c.legs z ≡ true) e (all-has (λ y. sooner (ahead k m) c y ≡ true) rest x h.rising.0 b))
 
         fewer : (v : List ℕ) → (c.legs ≡ v → ⊥) → Held (ahead k m) (room given) (c ∷ rest) v → Held (ahead k m) (room (given ++ c.legs ∷ [])) rest v
         fewer v ne (inl a) = go (has_cons_cases rest c a.0 a.1)
           where
-            go : Has rest a.0 ⊎ (c ≡ a.0) → Held (ahead k m) (room (given ++ c.legs ∷ [])) rest v
+            go : ContainsAt rest a.0 ⊎ (c ≡ a.0) → Held (ahead k m) (room (given ++ c.legs ∷ [])) rest v
             go (inl b) = inl (a.0, b, a.2)
             go (inr e) = absurd (ne (ap (λ (z : Candidate). z.legs) e ∙ a.2))
         fewer v ne (inr a) = inr (omega (arith, a.0, length_push given c.legs), a.1.1)
 
-        routes' : All (Route m no_bars s t) (given ++ c.legs ∷ [])
+        routes' : AllByRecursion (Route m no_bars s t) (given ++ c.legs ∷ [])
         routes' = All-push (Route m no_bars s t) given c.legs routes here.other.route
 
         carried : (p : List ℕ) → Stem (given ++ c.legs ∷ []) p → deviation m (given ++ c.legs ∷ []) s p ≡ deviation m given s p → Searched k m given s t (c ∷ rest) p → Searched k m (given ++ c.legs ∷ []) s t rest p
         carried p st e (inl a) =
             let least : Least k m (deviation m (given ++ c.legs ∷ []) s p) (end_of m s p) t a.0 = subst⁻¹ (λ (b : Bars). Least k m b (end_of m s p) t a.0) e a.1 in
             let other = stem_sound m s t (given ++ c.legs ∷ []) routes' p a.0 st least.route in
-            inl (a.0, least, fewer (p ++ a.0) (λ f. other.new (subst (λ (x : List ℕ). Has (given ++ c.legs ∷ []) x) f (has_push given c.legs))) a.2)
+            inl (a.0, least, fewer (p ++ a.0) (λ f. other.new (subst (λ (x : List ℕ). ContainsAt (given ++ c.legs ∷ []) x) f (has_push given c.legs))) a.2)
         carried p st e (inr none) = inr (λ q r. none q (subst (λ (b : Bars). Route m b (end_of m s p) t q) e r))
 
         from : (p : List ℕ) → Stem (given ++ c.legs ∷ []) p → (Stem given p × (deviation m (given ++ c.legs ∷ []) s p ≡ deviation m given s p)) ⊎ ((i : ℕ) × (c.at ≤ i) × (i < length c.legs) × (p ≡ take i c.legs)) → Searched k m (given ++ c.legs ∷ []) s t rest p ⊎ Ahead (given ++ c.legs ∷ []) c.at p
@@ -169,7 +169,7 @@ module _ (m : Meaning) (sound : Sound m) {C : Type 0} (k : Costs C) (laws : Laws
   pub ranked_give : (given : List (List ℕ)) (w : List ℕ) → length given < 16 → Ranked k m s t given → Next k m given s t w → Ranked k m s t (given ++ w ∷ [])
   ranked_give given w l h n = record { routes = All-push (Route m no_bars s t) given w h.routes n.other.route; rising = ascending_push (ahead k m) given w h.rising (h.behind w n.other); behind = λ js o. behind js o; count = omega (arith, length_push given w) }
     where
-      behind : (js : List ℕ) → Other m (given ++ w ∷ []) s t js → All (λ g. ahead k m g js ≡ true) (given ++ w ∷ [])
+      behind : (js : List ℕ) → Other m (given ++ w ∷ []) s t js → AllByRecursion (λ g. ahead k m g js ≡ true) (given ++ w ∷ [])
       behind js o = All-push (λ g. ahead k m g js ≡ true) given w (h.behind js old) (go (cases_Bool (ahead k m w js)))
         where
           old : Other m given s t js
@@ -177,4 +177,4 @@ module _ (m : Meaning) (sound : Sound m) {C : Type 0} (k : Costs C) (laws : Laws
 
           go : (ahead k m w js ≡ true) ⊎ (ahead k m w js ≡ false) → ahead k m w js ≡ true
           go (inl e) = e
-          go (inr e) = absurd (o.new (subst (λ (x : List ℕ). Has (given ++ w ∷ []) x) ((ahead_strict m k laws).same w js e (n.first js old)) (has_push given w)))
+          go (inr e) = absurd (o.new (subst (λ (x : List ℕ). ContainsAt (given ++ w ∷ []) x) ((ahead_strict m k laws).same w js e (n.first js old)) (has_push given w)))

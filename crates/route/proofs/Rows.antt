@@ -1,7 +1,7 @@
 -- The given routes and the pool in one list of rows.
 use Rattle.std.proofs.Common.{◌≡◌, ℕ, zero, suc, ◌+◌, ◌-◌, ◌<◌, ◌≤◌, Bool, true, false, ◌⊎◌, List, [], ◌∷◌, ◌++◌, map, length, get_or, take, drop, refl, ap, ◌∙◌, subst, inl, inr, arith, length-take-le}
 use mathlib.Core.Path.{subst⁻¹}
-use Rattle.std.specs.List.{ContainsAt as Has, insert}
+use Rattle.std.specs.List.{ContainsAt, insert}
 use Rattle.std.proofs.lemmas.List.{length-take, length-drop, length-map, take-take, take-append-le, drop-take, drop_more, drop_all, map_more, get_or-map, get_or-take, get_or-drop}
 use Rattle.std.proofs.lemmas.List.Edits.{length-insert}
 use Rattle.std.proofs.ByRecursion.{All-get_or, All-from_get_or, has_get_or}
@@ -113,7 +113,7 @@ module _ (m : Meaning) (sound : Sound m) {C : Type 0} (k : Costs C) (laws : Laws
     rows_found q i d l spur p =
         (λ b. rows_behind q d spur (omega (arith, p.high)) (λ n a c. p.below n a (omega (arith, rows_few))), λ b e. rows_there q i d spur p.low b ((ahead_strict m k laws).same (get_or rows i d).legs (front_of rows g j ++ q) (p.stop b) e), λ above. rows_placed q i d l spur p.low p.high p.below above)
 
-    pub rows_over : fronts (given_of rows g) ≤ j → length rows ≤ g → g < 16 → (w : List ℕ) → Route m no_bars s t w → Has (given_of rows g) w
+    pub rows_over : fronts (given_of rows g) ≤ j → length rows ≤ g → g < 16 → (w : List ℕ) → Route m no_bars s t w → ContainsAt (given_of rows g) w
     rows_over l none b = kept_over m sound k laws s t (given_of rows g) h.ranked.routes j (omega (arith, size)) l (subst (λ (cs : List Candidate). Kept k m (given_of rows g) s t cs j) (drop_all g rows none) h.kept)
 
     pub rows_give : (d : Candidate) → fronts (given_of rows g) ≤ j → g < length rows → Next k m (given_of rows g) s t (get_or rows g d).legs × Rows k m s t rows (g + 1) (get_or rows g d).at
@@ -129,7 +129,7 @@ module _ (m : Meaning) (sound : Sound m) {C : Type 0} (k : Costs C) (laws : Laws
         more = map_more (λ (c : Candidate). c.legs) rows g d b
 
     -- where every route is given, no candidate is left
-    pub rows_exact : fronts (given_of rows g) ≤ j → ((w : List ℕ) → Route m no_bars s t w → Has (given_of rows g) w) → length rows ≤ g
+    pub rows_exact : fronts (given_of rows g) ≤ j → ((w : List ℕ) → Route m no_bars s t w → ContainsAt (given_of rows g) w) → length rows ≤ g
     rows_exact l all = go (cases_lt g (length rows))
       where
         go : (g < length rows) ⊎ (length rows ≤ g) → length rows ≤ g

@@ -1,7 +1,7 @@
 -- Runs of the ranking: the steps come together, whatever answers the searches.
 use Rattle.std.proofs.Common.{◌≡◌, ℕ, zero, suc, ◌+◌, ◌-◌, ◌<◌, ◌≤◌, Bool, true, false, ◌⊎◌, List, [], ◌++◌, map, length, get_or, take, refl, ap, ◌∙◌, subst, inl, inr, arith}
 use mathlib.Core.Path.{subst⁻¹}
-use Rattle.std.specs.List.{ContainsAt as Has, insert}
+use Rattle.std.specs.List.{ContainsAt, insert}
 use Rattle.std.proofs.lemmas.Bool.{cases_Bool, cases_lt}
 use Rattle.network.specs.Meaning.{Meaning, Sound}
 use Rattle.cost.specs.Costs.{Costs, Laws}
@@ -85,11 +85,11 @@ module _ (m : Meaning) (sound : Sound m) {C : Type 0} (k : Costs C) (laws : Laws
         go (inr b) ih = (record { now = rows; upto = j; later = omega arith; kept = h; same = refl }, b)
 
     -- one turn: the next route is given, or there is none
-    turn : (rows : List Candidate) (g : ℕ) → g < 16 → Rows k m s t rows g (start_of rows g) → ((now : List Candidate) × Rows k m s t now (g + 1) (start_of now (g + 1))) ⊎ ((now : List Candidate) × Rows k m s t now g (start_of now g) × ((w : List ℕ) → Route m no_bars s t w → Has (given_of now g) w))
+    turn : (rows : List Candidate) (g : ℕ) → g < 16 → Rows k m s t rows g (start_of rows g) → ((now : List Candidate) × Rows k m s t now (g + 1) (start_of now (g + 1))) ⊎ ((now : List Candidate) × Rows k m s t now g (start_of now g) × ((w : List ℕ) → Route m no_bars s t w → ContainsAt (given_of now g) w))
     turn rows g b h = go (fronts_all (fronts (given_of rows g)) rows g (start_of rows g) (omega arith) h)
       where
         Out : Type 0
-        Out = ((now : List Candidate) × Rows k m s t now (g + 1) (start_of now (g + 1))) ⊎ ((now : List Candidate) × Rows k m s t now g (start_of now g) × ((w : List ℕ) → Route m no_bars s t w → Has (given_of now g) w))
+        Out = ((now : List Candidate) × Rows k m s t now (g + 1) (start_of now (g + 1))) ⊎ ((now : List Candidate) × Rows k m s t now g (start_of now g) × ((w : List ℕ) → Route m no_bars s t w → ContainsAt (given_of now g) w))
 
         go : ((o : Onto k m s t rows g (start_of rows g)) × (fronts (given_of rows g) ≤ o.upto)) → Out
         go x = side (cases_lt g (length now))
@@ -107,22 +107,22 @@ module _ (m : Meaning) (sound : Sound m) {C : Type 0} (k : Costs C) (laws : Laws
             side (inl l) = inl (now, subst⁻¹ (λ (i : ℕ). Rows k m s t now (g + 1) i) (start_is now g none l) (rows_give m sound k laws s t now g x.0.upto x.0.kept none all l).1)
             side (inr l) = inr (now, rows_back m sound k laws s t now g x.0.upto x.0.kept (start_of now g) late, rows_over m sound k laws s t now g x.0.upto x.0.kept all l b)
 
-    pub runs : (n : ℕ) → n ≤ 16 → (rows : List Candidate) × (g : ℕ) × Rows k m s t rows g (start_of rows g) × ((g ≡ n) ⊎ ((g < n) × ((w : List ℕ) → Route m no_bars s t w → Has (given_of rows g) w)))
+    pub runs : (n : ℕ) → n ≤ 16 → (rows : List Candidate) × (g : ℕ) × Rows k m s t rows g (start_of rows g) × ((g ≡ n) ⊎ ((g < n) × ((w : List ℕ) → Route m no_bars s t w → ContainsAt (given_of rows g) w)))
     runs zero l = ([], 0, rows_open m sound k laws s t, inl refl)
     runs (suc n) l = go (runs n (omega arith))
       where
         Out : Type 0
-        Out = (rows : List Candidate) × (g : ℕ) × Rows k m s t rows g (start_of rows g) × ((g ≡ suc n) ⊎ ((g < suc n) × ((w : List ℕ) → Route m no_bars s t w → Has (given_of rows g) w)))
+        Out = (rows : List Candidate) × (g : ℕ) × Rows k m s t rows g (start_of rows g) × ((g ≡ suc n) ⊎ ((g < suc n) × ((w : List ℕ) → Route m no_bars s t w → ContainsAt (given_of rows g) w)))
 
-        step : (g : ℕ) → g ≡ n → ((now : List Candidate) × Rows k m s t now (g + 1) (start_of now (g + 1))) ⊎ ((now : List Candidate) × Rows k m s t now g (start_of now g) × ((w : List ℕ) → Route m no_bars s t w → Has (given_of now g) w)) → Out
+        step : (g : ℕ) → g ≡ n → ((now : List Candidate) × Rows k m s t now (g + 1) (start_of now (g + 1))) ⊎ ((now : List Candidate) × Rows k m s t now g (start_of now g) × ((w : List ℕ) → Route m no_bars s t w → ContainsAt (given_of now g) w)) → Out
         step g e (inl a) = (a.0, g + 1, a.1, inl (omega arith))
         step g e (inr a) = (a.0, g, a.1, inr (omega arith, a.2))
 
-        ends : (rows : List Candidate) (g : ℕ) → Rows k m s t rows g (start_of rows g) → (g ≡ n) ⊎ ((g < n) × ((w : List ℕ) → Route m no_bars s t w → Has (given_of rows g) w)) → Out
+        ends : (rows : List Candidate) (g : ℕ) → Rows k m s t rows g (start_of rows g) → (g ≡ n) ⊎ ((g < n) × ((w : List ℕ) → Route m no_bars s t w → ContainsAt (given_of rows g) w)) → Out
         ends rows g h (inl e) = step g e (turn rows g (omega arith) h)
         ends rows g h (inr b) = (rows, g, h, inr (omega (arith, b.0), b.1))
 
-        go : ((rows : List Candidate) × (g : ℕ) × Rows k m s t rows g (start_of rows g) × ((g ≡ n) ⊎ ((g < n) × ((w : List ℕ) → Route m no_bars s t w → Has (given_of rows g) w)))) → Out
+        go : ((rows : List Candidate) × (g : ℕ) × Rows k m s t rows g (start_of rows g) × ((g ≡ n) ⊎ ((g < n) × ((w : List ℕ) → Route m no_bars s t w → ContainsAt (given_of rows g) w)))) → Out
         go x = ends x.0 x.1 x.2 x.3
 
 pub pools : {C : Type 0} (k : Costs C) → Laws k → Pools k

@@ -1,7 +1,7 @@
 -- Stems: the roots of the given routes, and before the first of them the empty one.
 use Rattle.std.proofs.Common.{◌≡◌, ℕ, zero, suc, ◌-◌, ◌<◌, ◌≤◌, false, ◌⊎◌, List, [], ◌∷◌, ◌++◌, length, take, drop, sym, refl, ap, ◌∙◌, subst, inl, inr, arith, take-append-drop, length-take-le}
 use mathlib.Core.Path.{subst⁻¹}
-use Rattle.std.specs.List.{ContainsAt as Has, AllByRecursion as All}
+use Rattle.std.specs.List.{ContainsAt, AllByRecursion}
 use Rattle.std.proofs.lemmas.List.{length_push, get_or_push}
 use Rattle.std.proofs.ByRecursion.{All-get_or, has_get_or, has_push, has_push_cases, has_append_left}
 use Rattle.network.specs.Meaning.{Meaning, Sound}
@@ -26,7 +26,7 @@ pub newest_push : (given : List (List ℕ)) (w : List ℕ) → newest (given ++ 
 newest_push given w = get_or_push given w [] (length (given ++ w ∷ []) - 1) (omega (arith, length_push given w))
 
 -- each front of the newest route is a stem
-pub stem_front : (m : Meaning) (s t : ℕ) (given : List (List ℕ)) → All (Route m no_bars s t) given → (j : ℕ) → j < fronts given → Stem given (take j (newest given))
+pub stem_front : (m : Meaning) (s t : ℕ) (given : List (List ℕ)) → AllByRecursion (Route m no_bars s t) given → (j : ℕ) → j < fronts given → Stem given (take j (newest given))
 stem_front m s t [] routes zero l = refl
 stem_front m s t [] routes (suc j) l = absurd (omega arith)
 stem_front m s t (g ∷ gs) routes j l =
@@ -43,23 +43,23 @@ pub record Stemmed (m : Meaning) (given : List (List ℕ)) (s t : ℕ) (w : List
   pub route : Route m (deviation m given s root) (end_of m s root) t spur
 
 module _ (m : Meaning) (s t : ℕ) where
-  pub stem_sound : (given : List (List ℕ)) → All (Route m no_bars s t) given → (p q : List ℕ) → Stem given p → Route m (deviation m given s p) (end_of m s p) t q → Other m given s t (p ++ q)
+  pub stem_sound : (given : List (List ℕ)) → AllByRecursion (Route m no_bars s t) given → (p q : List ℕ) → Stem given p → Route m (deviation m given s p) (end_of m s p) t q → Other m given s t (p ++ q)
   stem_sound [] routes p q e r =
       let free : Route m no_bars s t q = subst (λ (x : List ℕ). Route m (deviation m [] s x) (end_of m s x) t q) e r in
       subst⁻¹ (λ (x : List ℕ). Other m [] s t (x ++ q)) e (record { route = free; new = λ h. omega (arith, h.1) })
   stem_sound (g ∷ gs) routes p q root r = deviation_sound m (g ∷ gs) s t routes p q root r
 
-  pub stem_covers : (given : List (List ℕ)) → All (Route m no_bars s t) given → (w : List ℕ) → Other m given s t w → Stemmed m given s t w
+  pub stem_covers : (given : List (List ℕ)) → AllByRecursion (Route m no_bars s t) given → (w : List ℕ) → Other m given s t w → Stemmed m given s t w
   stem_covers [] routes w o = record { root = []; spur = w; stem = refl; parts = refl; route = o.route }
   stem_covers (g ∷ gs) routes w o =
       let c = deviation_covers m (g ∷ gs) s t routes w (omega arith) o in
       record { root = c.root; spur = c.spur; stem = c.rooted; parts = c.parts; route = c.route }
 
   -- where no stem has a spur, every route is given
-  pub stem_none : (given : List (List ℕ)) → All (Route m no_bars s t) given → ((p : List ℕ) → Stem given p → (q : List ℕ) → Route m (deviation m given s p) (end_of m s p) t q → ⊥) → (w : List ℕ) → Route m no_bars s t w → Has given w
+  pub stem_none : (given : List (List ℕ)) → AllByRecursion (Route m no_bars s t) given → ((p : List ℕ) → Stem given p → (q : List ℕ) → Route m (deviation m given s p) (end_of m s p) t q → ⊥) → (w : List ℕ) → Route m no_bars s t w → ContainsAt given w
   stem_none given routes none w r = go (given_cases given w)
     where
-      go : Has given w ⊎ (Has given w → ⊥) → Has given w
+      go : ContainsAt given w ⊎ (ContainsAt given w → ⊥) → ContainsAt given w
       go (inl h) = h
       go (inr n) = let c = stem_covers given routes w (record { route = r; new = n }) in absurd (none c.root c.stem c.spur c.route)
 
@@ -70,10 +70,10 @@ module _ (m : Meaning) (s t : ℕ) where
       none : at ≡ 0
       none = sym (length-take-le at w (omega arith)) ∙ ap length e
 
-      go : Has [] r.route ⊎ (w ≡ r.route) → (Stem [] p × (deviation m (w ∷ []) s p ≡ deviation m [] s p)) ⊎ ((i : ℕ) × (at ≤ i) × (i < length w) × (p ≡ take i w))
+      go : ContainsAt [] r.route ⊎ (w ≡ r.route) → (Stem [] p × (deviation m (w ∷ []) s p ≡ deviation m [] s p)) ⊎ ((i : ℕ) × (at ≤ i) × (i < length w) × (p ≡ take i w))
       go (inl h) = absurd (omega (arith, h.1))
       go (inr f) = inr (r.at, omega (arith, none), rw f r.within, r.is ∙ ap (take r.at) (sym f))
-  stem_onward (g ∷ gs) w at l r₀ p r = go (onward m (g ∷ gs) s r₀.route r₀.at (drop at w) r₀.has r₀.within r.route r.at (subst (λ (x : List ℕ). Has ((g ∷ gs) ++ x ∷ []) r.route) e r.has) r.within)
+  stem_onward (g ∷ gs) w at l r₀ p r = go (onward m (g ∷ gs) s r₀.route r₀.at (drop at w) r₀.has r₀.within r.route r.at (subst (λ (x : List ℕ). ContainsAt ((g ∷ gs) ++ x ∷ []) r.route) e r.has) r.within)
     where
       v : List ℕ
       v = take r₀.at r₀.route ++ drop at w
@@ -85,7 +85,7 @@ module _ (m : Meaning) (s t : ℕ) where
       level = sym (length-take-le at w (omega arith)) ∙ (ap length r₀.is ∙ length-take-le r₀.at r₀.route (omega (arith, r₀.within)))
 
       Same : Type 0
-      Same = (f : List ℕ) × (j : ℕ) × Has (g ∷ gs) f × (j < length f) × (take r.at r.route ≡ take j f) × (deviation m ((g ∷ gs) ++ v ∷ []) s (take r.at r.route) ≡ deviation m (g ∷ gs) s (take r.at r.route))
+      Same = (f : List ℕ) × (j : ℕ) × ContainsAt (g ∷ gs) f × (j < length f) × (take r.at r.route ≡ take j f) × (deviation m ((g ∷ gs) ++ v ∷ []) s (take r.at r.route) ≡ deviation m (g ∷ gs) s (take r.at r.route))
 
       New : Type 0
       New = (j : ℕ) × (r₀.at ≤ j) × (j < length v) × (take r.at r.route ≡ take j v)
@@ -95,7 +95,7 @@ module _ (m : Meaning) (s t : ℕ) where
           inl (record { route = a.0; has = a.2; at = a.1; within = a.3; is = r.is ∙ a.4 }, subst⁻¹ (λ (x : List ℕ). deviation m ((g ∷ gs) ++ x ∷ []) s p ≡ deviation m (g ∷ gs) s p) e (subst⁻¹ (λ (x : List ℕ). deviation m ((g ∷ gs) ++ v ∷ []) s x ≡ deviation m (g ∷ gs) s x) r.is a.5))
       go (inr b) = inr (b.0, omega (arith, level, b.1), subst⁻¹ (λ (x : List ℕ). b.0 < length x) e b.2, r.is ∙ (b.3 ∙ ap (take b.0) (sym e)))
 
-  module _ (sound : Sound m) {C : Type 0} (k : Costs C) (laws : Laws k) (given : List (List ℕ)) (routes : All (Route m no_bars s t) given) where
+  module _ (sound : Sound m) {C : Type 0} (k : Costs C) (laws : Laws k) (given : List (List ℕ)) (routes : AllByRecursion (Route m no_bars s t) given) where
     -- another route that leads at each stem is the next
     pub stem_next : (w : List ℕ) → Other m given s t w → ((p : List ℕ) → Stem given p → Leading k m given s t w p) → Next k m given s t w
     stem_next w o answers = record { other = o; first = λ js oj. behind js (stem_covers given routes js oj) }

@@ -1,7 +1,7 @@
 -- Legs that lead: taking the first leg off, looser bars, how long they get, splitting and joining.
 use Rattle.std.proofs.Common.{◌≡◌, ℕ, suc, ◌<◌, true, false, cond, eqb, List, [], ◌∷◌, ◌++◌, length, Some, None, Option, sym, refl, ap, subst, arith}
 use mathlib.Core.Path.{subst⁻¹}
-use Rattle.std.specs.List.{AllByRecursion as All}
+use Rattle.std.specs.List.{AllByRecursion}
 use Rattle.std.proofs.lemmas.Bool.{eq-eqb, both_ways}
 use Rattle.std.proofs.ByRecursion.{All-weaker}
 use Rattle.network.specs.declared.leg.Leg.{Leg}
@@ -107,7 +107,7 @@ module _ (m : Meaning) where
   passed_append b a (i ∷ p) q = passed_append (barring a b) (leads_to (m.at i) a) p q
 
   -- the stations met are not barred, and distinct
-  pub met_free : (b : Bars) (a : ℕ) (is : List ℕ) (goal : ℕ) → b.station a ≡ false → Leads m b a is goal → All (λ x. b.station x ≡ false) (met m a is)
+  pub met_free : (b : Bars) (a : ℕ) (is : List ℕ) (goal : ℕ) → b.station a ≡ false → Leads m b a is goal → AllByRecursion (λ x. b.station x ≡ false) (met m a is)
   met_free b a [] goal u h = (u, tt)
   met_free b a (i ∷ is) goal u h =
       let f = first_leg m b a i is goal h in
@@ -121,7 +121,7 @@ module _ (m : Meaning) where
       let rest = met_free (barring a b) f.leg.to is goal f.new f.rest in
       rw f.shown (All-weaker (λ x. (barring a b).station x ≡ false) (λ x. x ≡ a → ⊥) (barring_other a b) (met m f.leg.to is) rest, met_distinct (barring a b) f.leg.to is goal f.new f.rest)
 
-  pub met_below : (n : ℕ) (b : Bars) (a : ℕ) (is : List ℕ) (goal : ℕ) → ((i : ℕ) (l : Leg) → m.at i ≡ Some l → l.to < n) → a < n → Leads m b a is goal → All (λ x. x < n) (met m a is)
+  pub met_below : (n : ℕ) (b : Bars) (a : ℕ) (is : List ℕ) (goal : ℕ) → ((i : ℕ) (l : Leg) → m.at i ≡ Some l → l.to < n) → a < n → Leads m b a is goal → AllByRecursion (λ x. x < n) (met m a is)
   met_below n b a [] goal fits l h = (l, tt)
   met_below n b a (i ∷ is) goal fits l h =
       let f = first_leg m b a i is goal h in

@@ -4,7 +4,7 @@ use Rattle.network.specs.declared.leg.Leg.{Leg}
 use Rattle.network.specs.Meaning.{Meaning}
 use Rattle.route.specs.Routes.{Bars, no_bars, barring, Route, Least, ahead}
 use Rattle.cost.specs.Costs.{Costs}
-use Rattle.std.specs.List.{ContainsAt as Has}
+use Rattle.std.specs.List.{ContainsAt}
 
 -- where a leg leads; nothing shown leads nowhere new
 abbrev pub leads_to : Option Leg → ℕ → ℕ
@@ -44,7 +44,7 @@ deviation m given start p = record { station = (passed m no_bars start p).statio
 -- a route that is not given
 pub record Other (m : Meaning) (given : List (List ℕ)) (start goal : ℕ) (is : List ℕ) : Type 0 where
   pub route : Route m no_bars start goal is
-  pub new : Has given is → ⊥
+  pub new : ContainsAt given is → ⊥
 
 -- the first in rank of the routes that are not given
 pub record Next {C : Type 0} (k : Costs C) (m : Meaning) (given : List (List ℕ)) (start goal : ℕ) (is : List ℕ) : Type 0 where
@@ -54,7 +54,7 @@ pub record Next {C : Type 0} (k : Costs C) (m : Meaning) (given : List (List ℕ
 -- `p` is the front of a given route that goes on behind it
 pub record Root (given : List (List ℕ)) (p : List ℕ) : Type 0 where
   pub route : List ℕ
-  pub has : Has given route
+  pub has : ContainsAt given route
   pub at : ℕ
   pub within : at < length route
   pub is : p ≡ take at route

@@ -1,6 +1,6 @@
 -- The candidates that are kept beside the given routes, so that each root is searched once.
 use Rattle.std.specs.Prelude.{◌≡◌, ℕ, ◌+◌, ◌-◌, ◌<◌, ◌≤◌, max, Bool, true, false, ◌⊎◌, List, [], ◌∷◌, ◌++◌, map, length, get_or, take, drop, ◌≢◌, slice_index, slice_index_or}
-use Rattle.std.specs.List.{ContainsAt as Has, insert, AllByRecursion as All}
+use Rattle.std.specs.List.{ContainsAt, insert, AllByRecursion}
 use Rattle.network.specs.Meaning.{Meaning, Sound}
 use Rattle.cost.specs.Costs.{Costs}
 use Rattle.route.specs.Routes.{no_bars, Route, Least, ahead}
@@ -9,7 +9,7 @@ use Rattle.route.specs.Deviation.{end_of, deviation, Other, Next, Root, Answer}
 -- each is before all that follow it
 abbrev pub Ascending : {X : Type 0} → (X → X → Bool) → List X → Type 0
 Ascending r [] = Unit {0}
-Ascending r (x ∷ xs) = All (λ y. r x y ≡ true) xs × Ascending r xs
+Ascending r (x ∷ xs) = AllByRecursion (λ y. r x y ≡ true) xs × Ascending r xs
 
 -- a route, and how many of its legs are a given route's front
 pub record Candidate : Type 0 where
@@ -38,7 +38,7 @@ Stem (g ∷ gs) p = Root (g ∷ gs) p
 
 -- w is kept, or n and more are kept and all of them are before w
 abbrev pub Held : (List ℕ → List ℕ → Bool) → ℕ → List Candidate → List ℕ → Type 0
-Held r n pool w = ((c : Candidate) × Has pool c × (c.legs ≡ w)) ⊎ ((n ≤ length pool) × All (λ c. r c.legs w ≡ true) pool)
+Held r n pool w = ((c : Candidate) × ContainsAt pool c × (c.legs ≡ w)) ⊎ ((n ≤ length pool) × AllByRecursion (λ c. r c.legs w ≡ true) pool)
 
 -- the stem p is searched: the least that leaves behind it is held, or nothing leaves there
 abbrev pub Searched : {C : Type 0} → Costs C → Meaning → List (List ℕ) → ℕ → ℕ → List Candidate → List ℕ → Type 0
@@ -57,16 +57,16 @@ pub record Member (m : Meaning) (given : List (List ℕ)) (start goal : ℕ) (c 
 
 -- what the pool means while the fronts of the newest route are searched up to j
 pub record Kept {C : Type 0} (k : Costs C) (m : Meaning) (given : List (List ℕ)) (start goal : ℕ) (pool : List Candidate) (j : ℕ) : Type 0 where
-  pub members : All (Member m given start goal) pool
+  pub members : AllByRecursion (Member m given start goal) pool
   pub rising : Ascending (sooner (ahead k m)) pool
   pub few : length pool ≤ room given
   pub stems : (p : List ℕ) → Stem given p → Searched k m given start goal pool p ⊎ Ahead given j p
 
 -- the given routes are routes in rising rank, at most sixteen, and every other route ranks behind each of them
 pub record Ranked {C : Type 0} (k : Costs C) (m : Meaning) (start goal : ℕ) (given : List (List ℕ)) : Type 0 where
-  pub routes : All (Route m no_bars start goal) given
+  pub routes : AllByRecursion (Route m no_bars start goal) given
   pub rising : Ascending (ahead k m) given
-  pub behind : (js : List ℕ) → Other m given start goal js → All (λ g. ahead k m g js ≡ true) given
+  pub behind : (js : List ℕ) → Other m given start goal js → AllByRecursion (λ g. ahead k m g js ≡ true) given
   pub count : length given ≤ 16
 
 -- the legs of the first g rows: the given routes stand in the first rows, and the pool behind them
@@ -112,10 +112,10 @@ pub record Pools {C : Type 0} (k : Costs C) : Type 0 where
   pub behind : (m : Meaning) → Sound m → (s t : ℕ) (rows : List Candidate) (g j : ℕ) (q : List ℕ) (d : Candidate) → Rows k m s t rows g j → Spur k m (given_of rows g) s t (front_of rows g j) q → 16 ≤ length rows → ((n : ℕ) → g ≤ n → n < length rows → ahead k m (get_or rows n d).legs (front_of rows g j ++ q) ≡ true) → Rows k m s t rows g (j + 1)
   pub placed : (m : Meaning) → Sound m → (s t : ℕ) (rows : List Candidate) (g j : ℕ) (q : List ℕ) (i : ℕ) (d : Candidate) → Rows k m s t rows g j → j < fronts (given_of rows g) → Spur k m (given_of rows g) s t (front_of rows g j) q → g ≤ i → i ≤ length rows → ((n : ℕ) → g ≤ n → n < i → ahead k m (get_or rows n d).legs (front_of rows g j ++ q) ≡ true) → (i < length rows → ahead k m (front_of rows g j ++ q) (get_or rows i d).legs ≡ true) → Rows k m s t (take 16 (insert rows i (record { legs = front_of rows g j ++ q; at = j }))) g (j + 1)
   pub found : (m : Meaning) → Sound m → (s t : ℕ) (rows : List Candidate) (g j : ℕ) (q : List ℕ) (i : ℕ) (d : Candidate) → Rows k m s t rows g j → j < fronts (given_of rows g) → Spur k m (given_of rows g) s t (front_of rows g j) q → Place (ahead k m) rows g d (front_of rows g j ++ q) i → ((16 ≤ i → Rows k m s t rows g (j + 1)) × (i < length rows → ahead k m (front_of rows g j ++ q) (get_or rows i d).legs ≡ false → Rows k m s t rows g (j + 1)) × ((i < length rows → ahead k m (front_of rows g j ++ q) (get_or rows i d).legs ≡ true) → Rows k m s t (take 16 (insert rows i (record { legs = front_of rows g j ++ q; at = j }))) g (j + 1)))
-  pub over : (m : Meaning) → Sound m → (s t : ℕ) (rows : List Candidate) (g j : ℕ) → Rows k m s t rows g j → fronts (given_of rows g) ≤ j → length rows ≤ g → g < 16 → (w : List ℕ) → Route m no_bars s t w → Has (given_of rows g) w
+  pub over : (m : Meaning) → Sound m → (s t : ℕ) (rows : List Candidate) (g j : ℕ) → Rows k m s t rows g j → fronts (given_of rows g) ≤ j → length rows ≤ g → g < 16 → (w : List ℕ) → Route m no_bars s t w → ContainsAt (given_of rows g) w
   pub give : (m : Meaning) → Sound m → (s t : ℕ) (rows : List Candidate) (g j : ℕ) (d : Candidate) → Rows k m s t rows g j → fronts (given_of rows g) ≤ j → g < length rows → Next k m (given_of rows g) s t (get_or rows g d).legs × Rows k m s t rows (g + 1) (get_or rows g d).at
-  pub exact : (m : Meaning) → Sound m → (s t : ℕ) (rows : List Candidate) (g j : ℕ) → Rows k m s t rows g j → fronts (given_of rows g) ≤ j → ((w : List ℕ) → Route m no_bars s t w → Has (given_of rows g) w) → length rows ≤ g
+  pub exact : (m : Meaning) → Sound m → (s t : ℕ) (rows : List Candidate) (g j : ℕ) → Rows k m s t rows g j → fronts (given_of rows g) ≤ j → ((w : List ℕ) → Route m no_bars s t w → ContainsAt (given_of rows g) w) → length rows ≤ g
   pub front : (m : Meaning) → Sound m → (s t : ℕ) (rows : List Candidate) (g j : ℕ) (i : ℕ) (c : Candidate) → Rows k m s t rows g j → g ≤ i → i ≤ length rows → take g (take 16 (insert rows i c)) ≡ take g rows
   pub different : (m : Meaning) → Sound m → (s t : ℕ) (given : List (List ℕ)) (i j : ℕ) (d : List ℕ) → Ranked k m s t given → i < j → j < length given → (ahead k m (slice_index_or given i d) (slice_index_or given j d) ≡ true) × (slice_index_or given i d ≢ slice_index_or given j d)
   pub few : (m : Meaning) → Sound m → (s t : ℕ) (rows : List Candidate) (g j : ℕ) → Rows k m s t rows g j → length rows ≤ 16
-  pub runs : (m : Meaning) → Sound m → (s t : ℕ) → ((given : List (List ℕ)) (p : List ℕ) → Answer k m given s t p) → (n : ℕ) → n ≤ 16 → (rows : List Candidate) × (g : ℕ) × Rows k m s t rows g (start_of rows g) × ((g ≡ n) ⊎ ((g < n) × ((w : List ℕ) → Route m no_bars s t w → Has (given_of rows g) w)))
+  pub runs : (m : Meaning) → Sound m → (s t : ℕ) → ((given : List (List ℕ)) (p : List ℕ) → Answer k m given s t p) → (n : ℕ) → n ≤ 16 → (rows : List Candidate) × (g : ℕ) × Rows k m s t rows g (start_of rows g) × ((g ≡ n) ⊎ ((g < n) × ((w : List ℕ) → Route m no_bars s t w → ContainsAt (given_of rows g) w)))
