@@ -3,24 +3,25 @@ ghost use Rattle.std.specs.Prelude.{◌≡◌, ℕ, true, false};
 ghost use Rattle.overlay.specs.Laws.{ClosureLaws};
 ghost use Rattle.overlay.specs.Marks.{unless, markable, marked};
 ghost use Rattle.overlay.specs.Meanings.{closed};
-ghost use Rattle.overlay.specs.Sets.{holds, count};
 ghost use Rattle.overlay.specs.Sounds.{closed_sound};
+ghost use Rattle.sets.specs.Sets.{holds, count};
 
-use crate::leg_set::LegSet;
+use crate::marks::in_range;
 use network::leg::Leg;
 use network::network::Network;
 use network::refusal::Refusal;
+use sets::number_set::NumberSet;
 
-// Shows nothing at the leg numbers that it holds shut. It holds any number to 511, also those that the network below
-// does not have.
+/// Shows nothing at the leg numbers that it holds shut. It holds any number to 511, also those that the network below
+/// does not have.
 #[derive(Drop)]
 pub struct Closures<N> {
     below: N,
-    shut: LegSet,
+    shut: NumberSet<8>,
 }
 
 impl<N: Network> Closures<N> {
-    // Nothing is shut.
+    /// Nothing is shut.
     pub fn new(below: N) -> Closures<N>
         ensures below { result.below ≡ below }
         ensures marks { (i : ℕ) → holds result.shut.words i ≡ false }
@@ -28,59 +29,59 @@ impl<N: Network> Closures<N> {
     {
         Closures {
             below,
-            shut: LegSet::new(),
+            shut: NumberSet::new(),
         }
     }
 
-    // Shuts a leg number to 511.
+    // Holds a leg number to 511 shut, or not.
+    fn mark(&mut self, number: u16, shut: bool) -> Result<(), Refusal>
+        ensures answer { result ≡ unless (markable number) tt }
+        ensures marks { (i : ℕ) → holds self.new.shut.words i ≡ marked number shut (holds self.old.shut.words) i }
+        ensures below { self.new.below ≡ self.old.below }
+    {
+        in_range(number)?;
+        self.shut.put(number, shut);
+        Ok(())
+    }
+
+    /// Shuts a leg number to 511.
     pub fn shut(&mut self, number: u16) -> Result<(), Refusal>
         ensures answer { result ≡ unless (markable number) tt }
         ensures marks { (i : ℕ) → holds self.new.shut.words i ≡ marked number true (holds self.old.shut.words) i }
         ensures below { self.new.below ≡ self.old.below }
     {
-        if number >= 512 {
-            return Err(Refusal::OverlayOutOfRange);
-        }
-        self.shut.put(number, true);
-        Ok(())
+        self.mark(number, true)
     }
 
-    // Opens a leg number to 511 again.
+    /// Opens a leg number to 511 again.
     pub fn open(&mut self, number: u16) -> Result<(), Refusal>
         ensures answer { result ≡ unless (markable number) tt }
         ensures marks { (i : ℕ) → holds self.new.shut.words i ≡ marked number false (holds self.old.shut.words) i }
         ensures below { self.new.below ≡ self.old.below }
     {
-        if number >= 512 {
-            return Err(Refusal::OverlayOutOfRange);
-        }
-        self.shut.put(number, false);
-        Ok(())
+        self.mark(number, false)
     }
 
-    // Whether a leg number to 511 is held shut.
+    /// Whether a leg number to 511 is held shut.
     pub fn is_shut(&self, number: u16) -> Result<bool, Refusal>
         ensures { result ≡ unless (markable number) (holds self.now.shut.words number) }
     {
-        if number >= 512 {
-            return Err(Refusal::OverlayOutOfRange);
-        }
+        in_range(number)?;
         Ok(self.shut.contains(number))
     }
 
-    // How many leg numbers are held shut.
+    /// How many leg numbers are held shut.
     pub fn count(&self) -> u32
         ensures { result ≡ count (holds self.now.shut.words) 512 }
     {
         self.shut.len()
     }
 
-    // The network below.
+    /// The network below.
     pub fn into_below(self) -> N
         ensures { result ≡ self.below }
     {
-        let Closures { below, shut: _ } = self;
-        below
+        self.below
     }
 }
 

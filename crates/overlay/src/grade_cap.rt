@@ -9,7 +9,7 @@ use network::leg::Leg;
 use network::network::Network;
 use network::refusal::Refusal;
 
-// Shows nothing where the grade is above the ceiling.
+/// Shows nothing where the grade is above the ceiling.
 #[derive(Drop)]
 pub struct GradeCap<N> {
     below: N,
@@ -17,24 +17,16 @@ pub struct GradeCap<N> {
 }
 
 impl<N: Network> GradeCap<N> {
-    fn over(below: N, ceiling: u8) -> GradeCap<N>
-        ensures below { result.below ≡ below }
-        ensures ceiling { result.ceiling ≡ ceiling }
-        ensures laws { CapLaws (N.Network.meaning below) }
-    {
-        GradeCap { below, ceiling }
-    }
-
-    // The ceiling is 3, so that every leg is shown.
+    /// The ceiling is 3, so that every leg is shown.
     pub fn new(below: N) -> GradeCap<N>
         ensures below { result.below ≡ below }
         ensures ceiling { result.ceiling ≡ 3 }
         ensures laws { CapLaws (N.Network.meaning below) }
     {
-        GradeCap::over(below, 3)
+        GradeCap { below, ceiling: 3 }
     }
 
-    // Sets the ceiling, 0 to 3.
+    /// Sets the ceiling, 0 to 3.
     pub fn set_ceiling(&mut self, ceiling: u8) -> Result<(), Refusal>
         ensures answer { result ≡ unless (nat_le ceiling 3) tt }
         ensures ceiling { self.new.ceiling ≡ (if nat_le ceiling 3 then ceiling else self.old.ceiling) }
@@ -47,19 +39,18 @@ impl<N: Network> GradeCap<N> {
         Ok(())
     }
 
+    /// The hardest grade that is shown.
     pub fn ceiling(&self) -> u8
         ensures { result ≡ self.now.ceiling }
     {
-        let GradeCap { below: _, ceiling } = self;
-        *ceiling
+        self.ceiling
     }
 
-    // The network below.
+    /// The network below.
     pub fn into_below(self) -> N
         ensures { result ≡ self.below }
     {
-        let GradeCap { below, ceiling: _ } = self;
-        below
+        self.below
     }
 }
 
@@ -77,9 +68,8 @@ impl<N: Network> Network for GradeCap<N> {
     }
 
     fn leg_at(&self, number: u16) -> Option<Leg> {
-        match self.below.leg_at(number) {
-            Some(leg) if leg.grade <= self.ceiling => Some(leg),
-            _ => None,
-        }
+        self.below
+            .leg_at(number)
+            .filter(|leg| leg.grade <= self.ceiling)
     }
 }

@@ -4,5 +4,5 @@
 
 pub mod closures;
 pub mod grade_cap;
-mod leg_set;
+mod marks;
 pub mod waits;

@@ -6,6 +6,7 @@ ghost use Rattle.overlay.specs.Meanings.{delayed, later};
 ghost use Rattle.overlay.specs.Sounds.{delayed_sound};
 ghost use Rattle.overlay.specs.Waiting.{wait_in};
 
+use crate::marks::in_range;
 use network::leg::Leg;
 use network::network::Network;
 use network::refusal::Refusal;
@@ -13,8 +14,8 @@ use network::refusal::Refusal;
 // The longest ride that a network shows, with its wait: twelve hours.
 const LONGEST: u16 = 43_200;
 
-// Shows each leg with its wait, twelve hours in all at most. It holds a wait for any number to 511, also for those that
-// the network below does not have.
+/// Shows each leg with its wait, twelve hours in all at most. It holds a wait for any number to 511, also for those that
+/// the network below does not have.
 #[derive(Drop)]
 pub struct Waits<N> {
     below: N,
@@ -31,68 +32,43 @@ fn delay(leg: Leg, wait: u16) -> Leg
     }
 }
 
-// The wait of a leg number; none past the row.
-fn wait_at(waits: &[u16], number: u16) -> u16
-    ensures { result ≡ wait_in waits.now number }
-{
-    let place = usize::from(number);
-    if place < waits.len() { waits[place] } else { 0 }
-}
-
-// A row of no waits.
-fn no_waits() -> [u16; 512]
-    ensures { (i : ℕ) → wait_in result i ≡ 0 }
-{
-    [0; 512]
-}
-
 impl<N: Network> Waits<N> {
-    fn over(below: N, waits: [u16; 512]) -> Waits<N>
-        ensures below { result.below ≡ below }
-        ensures waits { result.waits ≡ waits }
-        ensures laws { WaitLaws (N.Network.meaning below) }
-    {
-        Waits { below, waits }
-    }
-
-    // No leg has a wait.
+    /// No leg has a wait.
     pub fn new(below: N) -> Waits<N>
         ensures below { result.below ≡ below }
         ensures marks { (i : ℕ) → wait_in result.waits i ≡ 0 }
         ensures laws { WaitLaws (N.Network.meaning below) }
     {
-        Waits::over(below, no_waits())
+        Waits {
+            below,
+            waits: [0; 512],
+        }
     }
 
-    // Sets the wait of a leg number to 511.
+    /// Sets the wait of a leg number to 511.
     pub fn set_wait(&mut self, number: u16, wait: u16) -> Result<(), Refusal>
         ensures answer { result ≡ unless (markable number) tt }
         ensures marks { (i : ℕ) → wait_in self.new.waits i ≡ marked number wait (wait_in self.old.waits) i }
         ensures below { self.new.below ≡ self.old.below }
     {
-        if number >= 512 {
-            return Err(Refusal::OverlayOutOfRange);
-        }
+        in_range(number)?;
         self.waits[usize::from(number)] = wait;
         Ok(())
     }
 
-    // The wait of a leg number to 511.
+    /// The wait of a leg number to 511.
     pub fn wait(&self, number: u16) -> Result<u16, Refusal>
         ensures { result ≡ unless (markable number) (wait_in self.now.waits number) }
     {
-        if number >= 512 {
-            return Err(Refusal::OverlayOutOfRange);
-        }
-        Ok(wait_at(&self.waits, number))
+        in_range(number)?;
+        Ok(self.waits[usize::from(number)])
     }
 
-    // The network below.
+    /// The network below.
     pub fn into_below(self) -> N
         ensures { result ≡ self.below }
     {
-        let Waits { below, waits: _ } = self;
-        below
+        self.below
     }
 }
 
@@ -111,6 +87,7 @@ impl<N: Network> Network for Waits<N> {
 
     fn leg_at(&self, number: u16) -> Option<Leg> {
         let leg = self.below.leg_at(number)?;
-        Some(delay(leg, wait_at(&self.waits, number)))
+        let wait = self.waits.get(usize::from(number)).copied();
+        Some(delay(leg, wait.unwrap_or(0)))
     }
 }
