@@ -1,5 +1,6 @@
 pub mod Laws
 pub mod Marks
 pub mod Meanings
+pub mod Rules
 pub mod Sounds
 pub mod Waiting

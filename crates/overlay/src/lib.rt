@@ -5,4 +5,5 @@
 pub mod closures;
 pub mod grade_cap;
 mod marks;
+pub mod rule;
 pub mod waits;

@@ -2,11 +2,12 @@
 ghost use Rattle.std.specs.Prelude.{◌≡◌, ℕ};
 ghost use Rattle.overlay.specs.Laws.{WaitLaws};
 ghost use Rattle.overlay.specs.Marks.{unless, markable, marked};
-ghost use Rattle.overlay.specs.Meanings.{delayed, later};
-ghost use Rattle.overlay.specs.Sounds.{delayed_sound};
+ghost use Rattle.overlay.specs.Meanings.{delaying, later};
+ghost use Rattle.overlay.specs.Sounds.{delaying_keeps};
 ghost use Rattle.overlay.specs.Waiting.{wait_in};
 
 use crate::marks::in_range;
+use crate::rule::{Overlay, Rule};
 use network::leg::Leg;
 use network::network::Network;
 use network::refusal::Refusal;
@@ -14,11 +15,9 @@ use network::refusal::Refusal;
 // The longest ride that a network shows, with its wait: twelve hours.
 const LONGEST: u16 = 43_200;
 
-/// Shows each leg with its wait, twelve hours in all at most. It holds a wait for any number to 511, also for those that
-/// the network below does not have.
+/// The wait before each leg, by its number.
 #[derive(Drop)]
-pub struct Waits<N> {
-    below: N,
+pub struct LegWaits {
     waits: [u16; 512],
 }
 
@@ -32,62 +31,51 @@ fn delay(leg: Leg, wait: u16) -> Leg
     }
 }
 
+impl Rule for LegWaits {
+    ghost shows = { λ x. delaying (wait_in x.waits) };
+
+    ghost keeps_ranges = { λ x. delaying_keeps (wait_in x.waits) };
+
+    fn leg_at<N: Network>(&self, below: &N, number: u16) -> Option<Leg> {
+        let leg = below.leg_at(number)?;
+        let wait = self.waits.get(usize::from(number)).copied();
+        Some(delay(leg, wait.unwrap_or(0)))
+    }
+}
+
+/// Shows each leg with its wait, twelve hours in all at most. It holds a wait for any number to 511, also for those that
+/// the network below does not have.
+pub type Waits<N> = Overlay<N, LegWaits>;
+
 impl<N: Network> Waits<N> {
     /// No leg has a wait.
     pub fn new(below: N) -> Waits<N>
         ensures below { result.below ≡ below }
-        ensures marks { (i : ℕ) → wait_in result.waits i ≡ 0 }
+        ensures marks { (i : ℕ) → wait_in result.rule.waits i ≡ 0 }
         ensures laws { WaitLaws (N.Network.meaning below) }
     {
-        Waits {
+        Overlay {
             below,
-            waits: [0; 512],
+            rule: LegWaits { waits: [0; 512] },
         }
     }
 
     /// Sets the wait of a leg number to 511.
     pub fn set_wait(&mut self, number: u16, wait: u16) -> Result<(), Refusal>
         ensures answer { result ≡ unless (markable number) tt }
-        ensures marks { (i : ℕ) → wait_in self.new.waits i ≡ marked number wait (wait_in self.old.waits) i }
+        ensures marks { (i : ℕ) → wait_in self.new.rule.waits i ≡ marked number wait (wait_in self.old.rule.waits) i }
         ensures below { self.new.below ≡ self.old.below }
     {
         in_range(number)?;
-        self.waits[usize::from(number)] = wait;
+        self.rule.waits[usize::from(number)] = wait;
         Ok(())
     }
 
     /// The wait of a leg number to 511.
     pub fn wait(&self, number: u16) -> Result<u16, Refusal>
-        ensures { result ≡ unless (markable number) (wait_in self.now.waits number) }
+        ensures { result ≡ unless (markable number) (wait_in self.now.rule.waits number) }
     {
         in_range(number)?;
-        Ok(self.waits[usize::from(number)])
-    }
-
-    /// The network below.
-    pub fn into_below(self) -> N
-        ensures { result ≡ self.below }
-    {
-        self.below
-    }
-}
-
-impl<N: Network> Network for Waits<N> {
-    ghost meaning = { λ x. delayed (N.Network.meaning x.below) (wait_in x.waits) };
-
-    ghost sound = { λ x. delayed_sound (N.Network.meaning x.below) (wait_in x.waits) (N.Network.sound x.below) };
-
-    fn station_count(&self) -> u8 {
-        self.below.station_count()
-    }
-
-    fn leg_count(&self) -> u16 {
-        self.below.leg_count()
-    }
-
-    fn leg_at(&self, number: u16) -> Option<Leg> {
-        let leg = self.below.leg_at(number)?;
-        let wait = self.waits.get(usize::from(number)).copied();
-        Some(delay(leg, wait.unwrap_or(0)))
+        Ok(self.rule.waits[usize::from(number)])
     }
 }

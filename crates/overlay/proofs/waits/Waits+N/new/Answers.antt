@@ -1,5 +1,5 @@
 use Rattle.overlay.proofs.Laws.{wait_laws, no_waits}
-use Rattle.overlay.proofs.waits.Waits.new.Goals as goal
+use Rattle.overlay.proofs.waits.Waits+N.new.Goals as goal
 
 pub returns-clause-marks : goal.returns-clause-marks
 returns-clause-marks g c = no_waits 512
