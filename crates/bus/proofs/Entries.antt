@@ -1,18 +1,13 @@
--- The entries of a matrix, tested one after the other.
-use Rattle.std.proofs.Common.{◌≡◌, ℕ, zero, suc, ◌+◌, ◌<◌, Bool, true, false, ◌&&◌, List, [], ◌∷◌, length, get_or, drop, ap, ◌∙◌, subst, arith}
-use Rattle.std.proofs.lemmas.List.{at_drop_more}
+-- The entries of a matrix, each with its place.
+use Rattle.std.proofs.Common.{◌≡◌, ℕ, zero, suc, ◌+◌, ◌<◌, Bool, true, ◌&&◌, List, [], ◌∷◌, length, get_or, refl, ap, subst, arith}
+use Rattle.std.specs.List.{list_all, enumerate_from}
 use Rattle.std.proofs.lemmas.Bool.{and_parts}
 use Rattle.bus.specs.Matrices.{entry_fits, entries_fit}
 
-module _ (n i : ℕ) (minutes : List ℕ) (inside : i < length minutes) where
-  step : entries_fit n i (drop i minutes) ≡ (entry_fits n i (get_or minutes i 0) && entries_fit n (i + 1) (drop (i + 1) minutes))
-  step = at_drop_more (entries_fit n i) minutes i 0 inside
-
-  pub entries_more : entry_fits n i (get_or minutes i 0) ≡ true → entries_fit n i (drop i minutes) ≡ entries_fit n (i + 1) (drop (i + 1) minutes)
-  entries_more e = step ∙ ap (λ (b : Bool). b && entries_fit n (i + 1) (drop (i + 1) minutes)) e
-
-  pub entries_less : entry_fits n i (get_or minutes i 0) ≡ false → entries_fit n i (drop i minutes) ≡ false
-  entries_less e = step ∙ ap (λ (b : Bool). b && entries_fit n (i + 1) (drop (i + 1) minutes)) e
+-- whether each entry fits with its place
+pub all_fit : (n i : ℕ) (entries : List ℕ) → list_all (λ e. entry_fits n e.0 e.1) (enumerate_from i entries) ≡ entries_fit n i entries
+all_fit n i [] = refl
+all_fit n i (x ∷ xs) = ap (λ (b : Bool). entry_fits n i x && b) (all_fit n (i + 1) xs)
 
 -- where every entry fits, each does
 pub each_fits : (n i : ℕ) (entries : List ℕ) → entries_fit n i entries ≡ true → (k : ℕ) → k < length entries → entry_fits n (i + k) (get_or entries k 0) ≡ true
