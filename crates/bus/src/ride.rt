@@ -7,7 +7,8 @@ use network::leg::Leg;
 // Twelve hours, the longest that a leg may take.
 pub(crate) const MOST_MINUTES: u16 = 720;
 
-// The row and the column of a leg number: the stops that the ride leaves and reaches.
+// The row and the column of a leg number: the stops that the ride leaves and reaches. Both are below the count of stops,
+// so they are cast: a checked conversion would have a case that never comes.
 pub(crate) fn row_and_column(number: u16, stops: u8) -> (u8, u8)
     requires inside { number < stops * stops }
     requires some { 0 < stops }
