@@ -1,25 +1,21 @@
--- The entries of a matrix, tested one after the other.
-use Rattle.std.proofs.Common.{◌≡◌, ℕ, zero, suc, ◌+◌, ◌<◌, Bool, true, false, ◌&&◌, List, [], ◌∷◌, length, get_or, drop, ap, ◌∙◌, subst, arith}
-use Rattle.std.proofs.lemmas.List.{at_drop_more}
-use Rattle.std.proofs.lemmas.Bool.{and_parts}
+-- The entries of a matrix, each with its place.
+use Rattle.std.proofs.Common.{◌≡◌, ℕ, ◌+◌, ◌<◌, Bool, true, ◌&&◌, List, [], ◌∷◌, length, get_or, refl, ap, ◌∙◌, subst, zero-add}
+use Rattle.std.specs.List.{list_all, enumerate_from}
+use Rattle.std.proofs.lemmas.List.Elements.{All-get_or}
+use Rattle.std.proofs.lemmas.List.FromFn.{length-enumerate_from, get_or-enumerate_from}
+use Rattle.std.proofs.lemmas.List.Sums.{AllPass-from_list_all}
 use Rattle.bus.specs.Matrices.{entry_fits, entries_fit}
 
-module _ (n i : ℕ) (minutes : List ℕ) (inside : i < length minutes) where
-  step : entries_fit n i (drop i minutes) ≡ (entry_fits n i (get_or minutes i 0) && entries_fit n (i + 1) (drop (i + 1) minutes))
-  step = at_drop_more (entries_fit n i) minutes i 0 inside
-
-  pub entries_more : entry_fits n i (get_or minutes i 0) ≡ true → entries_fit n i (drop i minutes) ≡ entries_fit n (i + 1) (drop (i + 1) minutes)
-  entries_more e = step ∙ ap (λ (b : Bool). b && entries_fit n (i + 1) (drop (i + 1) minutes)) e
-
-  pub entries_less : entry_fits n i (get_or minutes i 0) ≡ false → entries_fit n i (drop i minutes) ≡ false
-  entries_less e = step ∙ ap (λ (b : Bool). b && entries_fit n (i + 1) (drop (i + 1) minutes)) e
+-- whether each entry fits with its place
+pub all_fit : (n i : ℕ) (entries : List ℕ) → list_all (λ e. entry_fits n e.0 e.1) (enumerate_from i entries) ≡ entries_fit n i entries
+all_fit n i [] = refl
+all_fit n i (x ∷ xs) = ap (λ (b : Bool). entry_fits n i x && b) (all_fit n (i + 1) xs)
 
 -- where every entry fits, each does
-pub each_fits : (n i : ℕ) (entries : List ℕ) → entries_fit n i entries ≡ true → (k : ℕ) → k < length entries → entry_fits n (i + k) (get_or entries k 0) ≡ true
-each_fits n i [] e k h = absurd (omega arith)
-each_fits n i (x ∷ xs) e zero h =
-    let here : i ≡ i + 0 = omega arith in
-    subst (λ j. entry_fits n j x ≡ true) here (and_parts (entry_fits n i x) (entries_fit n (i + 1) xs) e).0
-each_fits n i (x ∷ xs) e (suc k) h =
-    let there : i + 1 + k ≡ i + suc k = omega arith in
-    subst (λ j. entry_fits n j (get_or xs k 0) ≡ true) there (each_fits n (i + 1) xs (and_parts (entry_fits n i x) (entries_fit n (i + 1) xs) e).1 k (omega arith))
+pub each_fits : (n : ℕ) (entries : List ℕ) → entries_fit n 0 entries ≡ true → (k : ℕ) → k < length entries → entry_fits n k (get_or entries k 0) ≡ true
+each_fits n entries e k h =
+    let fits : ℕ × ℕ → Bool = λ p. entry_fits n p.0 p.1 in
+    let all = AllPass-from_list_all fits (enumerate_from 0 entries) (all_fit n 0 entries ∙ e) in
+    let long = length-enumerate_from 0 entries in
+    let at = get_or-enumerate_from 0 entries k (0, 0) h ∙ ap (λ j. (j, get_or entries k 0)) (zero-add k) in
+    subst (λ p. fits p ≡ true) at (All-get_or (λ p. fits p ≡ true) (enumerate_from 0 entries) k (0, 0) (rw long h) all)

@@ -7,7 +7,7 @@ abbrev pub told : Result BusMatrix Refusal → Result (ℕ × List ℕ) Refusal
 told (Ok m) = Ok (m.stops, m.minutes.now)
 told (Err why) = Err why
 
--- a matrix as it was given, unless it is refused
-abbrev pub answer : Option Refusal → ℕ × List ℕ → Result (ℕ × List ℕ) Refusal
+-- what was given, unless it is refused
+abbrev pub answer : {X : Type 0} → Option Refusal → X → Result X Refusal
 answer (Some why) given = Err why
 answer None given = Ok given

@@ -1,12 +1,13 @@
 -- Every matrix means a sound network.
 use Rattle.std.specs.Prelude.{◌≡◌, ℕ, ◌*◌, ◌/◌, ◌%◌, ◌<◌, ◌≤◌, ◌&&◌, List, Some, None, nat_le, nat_lt, slice_index}
 use Rattle.std.proofs.Common.{subst, arith}
+use Rattle.std.proofs.lemmas.Grind.{common_steps}
 use Rattle.std.proofs.lemmas.Nat.{mul-le, div_below, mod_below}
-use Rattle.std.proofs.lemmas.Bool.{and_parts, leb-true, ltb-true, le-ltb, cond-false, cond_both}
+use Rattle.std.proofs.lemmas.Bool.{and_parts, leb-true, ltb-true, le-ltb, cond-false}
 use Rattle.network.specs.Meaning.{Sound, LegFits}
 use Rattle.network.specs.Shown.{held}
 use Rattle.network.specs.declared.leg.Leg.{Leg}
-use Rattle.bus.specs.Matrices.{ride, matrix_meaning, count_fits, stops_of, bus_meaning}
+use Rattle.bus.specs.Matrices.{ride, matrix_meaning, stops_of, bus_meaning}
 
 ride_fits : (n from to minutes : ℕ) (l : Leg) → from < n → to < n → ride from to minutes ≡ Some l → LegFits n l
 ride_fits n from to minutes l a b e =
@@ -35,10 +36,10 @@ matrix_sound n minutes low high = record {
 }
 
 stops_low : (n : ℕ) → 2 ≤ stops_of n
-stops_low n = cond_both (count_fits n) n 2 (λ k. 2 ≤ k) (λ e. leb-true 2 n (and_parts (nat_le 2 n) (nat_le n 22) e).0) (λ e. omega arith)
+stops_low n = grind (arith, common_steps)
 
 stops_high : (n : ℕ) → stops_of n ≤ 22
-stops_high n = cond_both (count_fits n) n 2 (λ k. k ≤ 22) (λ e. leb-true n 22 (and_parts (nat_le 2 n) (nat_le n 22) e).1) (λ e. omega arith)
+stops_high n = grind (arith, common_steps)
 
 pub bus_sound : (n : ℕ) (minutes : List ℕ) → Sound (bus_meaning n minutes)
 bus_sound n minutes = matrix_sound (stops_of n) minutes (stops_low n) (stops_high n)

@@ -1,5 +1,6 @@
 // What a matrix is tested for before it is accepted.
-ghost use Rattle.std.specs.Prelude.{◌≡◌, ◌<◌, IfNone};
+ghost use Rattle.std.specs.Prelude.{◌≡◌, ◌<◌, OnOk};
+ghost use Rattle.bus.specs.Answers.{answer};
 ghost use Rattle.bus.specs.Matrices.{size_fits, entry_fits, entries_fit, matrix_refusal, Accepted};
 
 use crate::count::{count_fits, pair_count};
@@ -27,24 +28,22 @@ fn entries_fit(stops: u8, minutes: &[u16]) -> bool
     requires { 0 < stops }
     ensures { result ≡ entries_fit stops 0 minutes.now }
 {
-    for (place, entry) in minutes.iter().enumerate() {
-        if !entry_fits(stops, place, *entry) {
-            return false;
-        }
-    }
-    true
+    minutes
+        .iter()
+        .enumerate()
+        .all(|(place, entry)| entry_fits(stops, place, *entry))
 }
 
-// Why a matrix is refused, the size first; nothing where it is accepted.
-pub(crate) fn matrix_refusal(stops: u8, minutes: &[u16]) -> Option<Refusal>
-    ensures value { result ≡ matrix_refusal stops minutes.now }
-    ensures accepted { IfNone result (Accepted stops minutes.now) }
+// Refuses a matrix that may not be accepted, the size first.
+pub(crate) fn check_matrix(stops: u8, minutes: &[u16]) -> Result<(), Refusal>
+    ensures answer { result ≡ answer (matrix_refusal stops minutes.now) tt }
+    ensures accepted { OnOk result (Accepted stops minutes.now) }
 {
     if !size_fits(stops, minutes) {
-        return Some(Refusal::WrongMatrixSize);
+        return Err(Refusal::WrongMatrixSize);
     }
     if !entries_fit(stops, minutes) {
-        return Some(Refusal::WrongMatrixEntry);
+        return Err(Refusal::WrongMatrixEntry);
     }
-    None
+    Ok(())
 }

@@ -6,7 +6,7 @@ ghost use Rattle.bus.specs.Matrices.{count_fits, stops_of};
 pub(crate) fn count_fits(stops: u8) -> bool
     ensures { result ≡ count_fits stops }
 {
-    2 <= stops && stops <= 22
+    (2..=22).contains(&stops)
 }
 
 // The count itself where it is in range, else the least one: a network has at least two stations.

@@ -4,15 +4,15 @@ ghost use Rattle.bus.specs.Answers.{told, answer};
 ghost use Rattle.bus.specs.Matrices.{bus_meaning, matrix_refusal, Accepted};
 ghost use Rattle.bus.specs.Sounds.{bus_sound};
 
-use crate::check::matrix_refusal;
+use crate::check::check_matrix;
 use crate::count::{pair_count, stop_count};
-use crate::ride::{minutes_at, ride, row_and_column};
+use crate::ride::{ride, row_and_column};
 use network::leg::Leg;
 use network::network::Network;
 use network::refusal::Refusal;
 
-// The minutes from each stop to each, row after row: the entry in row a and column b is for the ride from a to b, and 0
-// is no ride. Nothing here is relied on: each question tests what it reads.
+/// The minutes from each stop to each, row after row: the entry in row a and column b is for the ride from a to b, and 0
+/// is no ride. Nothing here is relied on: each question tests what it reads.
 #[derive(Clone, Copy, Debug)]
 pub struct BusMatrix<'a> {
     pub(crate) stops: u8,
@@ -20,15 +20,13 @@ pub struct BusMatrix<'a> {
 }
 
 impl<'a> BusMatrix<'a> {
-    // The matrix of so many stops, 2 to 22, in these entries, or why they are refused.
+    /// The matrix of so many stops, 2 to 22, in these entries, or why they are refused.
     pub fn accept(stops: u8, minutes: &'a [u16]) -> Result<BusMatrix<'a>, Refusal>
         ensures answer { told result ≡ answer (matrix_refusal stops minutes.now) (stops, minutes.now) }
         ensures accepted { IfOk result (λ m. Accepted m.stops m.minutes.now) }
     {
-        match matrix_refusal(stops, minutes) {
-            Some(why) => Err(why),
-            None => Ok(BusMatrix { stops, minutes }),
-        }
+        check_matrix(stops, minutes)?;
+        Ok(BusMatrix { stops, minutes })
     }
 }
 
@@ -51,6 +49,7 @@ impl<'a> Network for BusMatrix<'a> {
             return None;
         }
         let (from, to) = row_and_column(number, stops);
-        ride(from, to, minutes_at(self.minutes, number))
+        let minutes = self.minutes.get(usize::from(number)).copied();
+        ride(from, to, minutes.unwrap_or(0))
     }
 }

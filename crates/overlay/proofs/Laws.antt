@@ -1,7 +1,7 @@
 -- The laws of the cap and of the waits.
-use Rattle.std.proofs.Common.{◌≡◌, ℕ, ◌+◌, ◌<◌, ◌≤◌, min, leb, ◌⊎◌, replicate, Some, None, Option, sym, refl, ap, ◌∙◌, inl, inr, arith}
-use Rattle.std.proofs.lemmas.List.{get_or-replicate, get_or_past, length-replicate}
-use Rattle.std.proofs.lemmas.Bool.{cases_lt, cond-true, le-leb}
+use Rattle.std.proofs.Common.{◌≡◌, ℕ, ◌+◌, ◌<◌, ◌≤◌, min, ◌⊎◌, replicate, Some, None, Option, sym, refl, ap, ◌∙◌, inl, inr, arith}
+use Rattle.std.proofs.lemmas.Grind.{common_steps}
+use Rattle.std.proofs.lemmas.Bool.{cases_lt}
 use Rattle.network.specs.Meaning.{Meaning, Sound, LegFits}
 use Rattle.network.specs.declared.leg.Leg.{Leg}
 use Rattle.overlay.specs.Laws.{CapLaws, WaitLaws, WaitsOnly}
@@ -10,7 +10,7 @@ use Rattle.overlay.specs.Waiting.{wait_in}
 use Rattle.overlay.specs.Sounds.{cap_shown}
 
 uncapped : (s : ℕ) (o : Option Leg) → ((l : Leg) → o ≡ Some l → LegFits s l) → no_harder 3 o ≡ o
-uncapped s (Some l) f = cond-true (leb l.grade 3) (Some l) None (le-leb l.grade 3 (f l refl).figures.grade_high)
+uncapped s (Some l) f = let h = (f l refl).figures.grade_high in grind (arith, common_steps)
 uncapped s None f = refl
 
 pub cap_laws : (m : Meaning) → Sound m → CapLaws m
@@ -43,8 +43,4 @@ wait_laws m s = record {
 
 -- a row of no waits
 pub no_waits : (n i : ℕ) → wait_in (replicate n 0) i ≡ 0
-no_waits n i = go (cases_lt i n)
-  where
-    go : (i < n) ⊎ (n ≤ i) → wait_in (replicate n 0) i ≡ 0
-    go (inl h) = get_or-replicate n i 0 0 h
-    go (inr h) = get_or_past (replicate n 0) i 0 (omega (arith, length-replicate {A = ℕ} n 0))
+no_waits n i = grind (arith, common_steps)

@@ -1,3 +1,1 @@
-pub mod Counts
 pub mod Laws
-pub mod Toggles

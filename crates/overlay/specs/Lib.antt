@@ -1,6 +1,6 @@
 pub mod Laws
 pub mod Marks
 pub mod Meanings
-pub mod Sets
+pub mod Rules
 pub mod Sounds
 pub mod Waiting

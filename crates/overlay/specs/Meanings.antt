@@ -2,18 +2,25 @@
 use Rattle.std.specs.Prelude.{ℕ, ◌+◌, min, Bool, cond, Some, None, Option, nat_le}
 use Rattle.network.specs.Meaning.{Meaning}
 use Rattle.network.specs.declared.leg.Leg.{Leg}
+use Rattle.overlay.specs.Rules.{overlaid}
 
 -- nothing at the numbers that are shut
+abbrev pub closing : (ℕ → Bool) → ℕ → Option Leg → Option Leg
+closing shut i o = cond (shut i) None o
+
 abbrev pub closed : Meaning → (ℕ → Bool) → Meaning
-closed m shut = record { stations = m.stations; legs = m.legs; at = λ i. cond (shut i) None (m.at i) }
+closed m shut = overlaid m (closing shut)
 
 -- a leg no harder than the ceiling
 abbrev pub no_harder : ℕ → Option Leg → Option Leg
 no_harder ceiling (Some l) = cond (nat_le l.grade ceiling) (Some l) None
 no_harder ceiling None = None
 
+abbrev pub capping : ℕ → ℕ → Option Leg → Option Leg
+capping ceiling i o = no_harder ceiling o
+
 abbrev pub capped : Meaning → ℕ → Meaning
-capped m ceiling = record { stations = m.stations; legs = m.legs; at = λ i. no_harder ceiling (m.at i) }
+capped m ceiling = overlaid m (capping ceiling)
 
 -- a leg with a wait before it, twelve hours in all at most
 abbrev pub later : ℕ → Leg → Leg
@@ -23,5 +30,8 @@ abbrev pub with_wait : ℕ → Option Leg → Option Leg
 with_wait wait (Some l) = Some (later wait l)
 with_wait wait None = None
 
+abbrev pub delaying : (ℕ → ℕ) → ℕ → Option Leg → Option Leg
+delaying wait i o = with_wait (wait i) o
+
 abbrev pub delayed : Meaning → (ℕ → ℕ) → Meaning
-delayed m wait = record { stations = m.stations; legs = m.legs; at = λ i. with_wait (wait i) (m.at i) }
+delayed m wait = overlaid m (delaying wait)

@@ -2,84 +2,63 @@
 ghost use Rattle.std.specs.Prelude.{◌≡◌, if◌then◌else◌, nat_le};
 ghost use Rattle.overlay.specs.Laws.{CapLaws};
 ghost use Rattle.overlay.specs.Marks.{unless};
-ghost use Rattle.overlay.specs.Meanings.{capped};
-ghost use Rattle.overlay.specs.Sounds.{capped_sound};
+ghost use Rattle.overlay.specs.Meanings.{capping};
+ghost use Rattle.overlay.specs.Sounds.{capping_keeps};
 
+use crate::rule::{Overlay, Rule};
 use network::leg::Leg;
 use network::network::Network;
 use network::refusal::Refusal;
 
-// Shows nothing where the grade is above the ceiling.
+/// The hardest grade that is shown.
 #[derive(Drop)]
-pub struct GradeCap<N> {
-    below: N,
+pub struct MostGrade {
     ceiling: u8,
 }
 
-impl<N: Network> GradeCap<N> {
-    fn over(below: N, ceiling: u8) -> GradeCap<N>
-        ensures below { result.below ≡ below }
-        ensures ceiling { result.ceiling ≡ ceiling }
-        ensures laws { CapLaws (N.Network.meaning below) }
-    {
-        GradeCap { below, ceiling }
-    }
+impl Rule for MostGrade {
+    ghost shows = { λ x. capping x.ceiling };
 
-    // The ceiling is 3, so that every leg is shown.
+    ghost keeps_ranges = { λ x. capping_keeps x.ceiling };
+
+    fn leg_at<N: Network>(&self, below: &N, number: u16) -> Option<Leg> {
+        below.leg_at(number).filter(|leg| leg.grade <= self.ceiling)
+    }
+}
+
+/// Shows nothing where the grade is above the ceiling.
+pub type GradeCap<N> = Overlay<N, MostGrade>;
+
+impl<N: Network> GradeCap<N> {
+    /// The ceiling is 3, so that every leg is shown.
     pub fn new(below: N) -> GradeCap<N>
         ensures below { result.below ≡ below }
-        ensures ceiling { result.ceiling ≡ 3 }
+        ensures ceiling { result.rule.ceiling ≡ 3 }
         ensures laws { CapLaws (N.Network.meaning below) }
     {
-        GradeCap::over(below, 3)
+        Overlay {
+            below,
+            rule: MostGrade { ceiling: 3 },
+        }
     }
 
-    // Sets the ceiling, 0 to 3.
+    /// Sets the ceiling, 0 to 3.
     pub fn set_ceiling(&mut self, ceiling: u8) -> Result<(), Refusal>
         ensures answer { result ≡ unless (nat_le ceiling 3) tt }
-        ensures ceiling { self.new.ceiling ≡ (if nat_le ceiling 3 then ceiling else self.old.ceiling) }
+        ensures ceiling { self.new.rule.ceiling ≡ (if nat_le ceiling 3 then ceiling else self.old.rule.ceiling) }
         ensures below { self.new.below ≡ self.old.below }
     {
         if ceiling > 3 {
             return Err(Refusal::OverlayOutOfRange);
         }
-        self.ceiling = ceiling;
+        self.rule = MostGrade { ceiling };
         Ok(())
     }
 
+    /// The hardest grade that is shown.
     pub fn ceiling(&self) -> u8
-        ensures { result ≡ self.now.ceiling }
+        ensures { result ≡ self.now.rule.ceiling }
     {
-        let GradeCap { below: _, ceiling } = self;
-        *ceiling
-    }
-
-    // The network below.
-    pub fn into_below(self) -> N
-        ensures { result ≡ self.below }
-    {
-        let GradeCap { below, ceiling: _ } = self;
-        below
-    }
-}
-
-impl<N: Network> Network for GradeCap<N> {
-    ghost meaning = { λ x. capped (N.Network.meaning x.below) x.ceiling };
-
-    ghost sound = { λ x. capped_sound (N.Network.meaning x.below) x.ceiling (N.Network.sound x.below) };
-
-    fn station_count(&self) -> u8 {
-        self.below.station_count()
-    }
-
-    fn leg_count(&self) -> u16 {
-        self.below.leg_count()
-    }
-
-    fn leg_at(&self, number: u16) -> Option<Leg> {
-        match self.below.leg_at(number) {
-            Some(leg) if leg.grade <= self.ceiling => Some(leg),
-            _ => None,
-        }
+        self.rule.ceiling
     }
 }

@@ -4,5 +4,6 @@
 
 pub mod closures;
 pub mod grade_cap;
-mod leg_set;
+mod marks;
+pub mod rule;
 pub mod waits;
