@@ -5,7 +5,7 @@ use crate::fare::Fare;
 use crate::model::CostModel;
 use network::leg::Leg;
 
-// Fewer points come first, and at equal points fewer seconds.
+/// Fewer points come first, and at equal points fewer seconds.
 #[derive(Clone, Copy, Debug)]
 pub struct PointsThenSeconds;
 
@@ -14,21 +14,14 @@ impl CostModel for PointsThenSeconds {
 
     const MARK: u8 = b'P';
 
+    ghost MARK = { 80 };
+
     ghost costs = { λ _. points };
 
     ghost laws = { λ _. points_laws };
 
-    ghost letter = { 80 };
-
-    fn mark_byte() -> u8 {
-        Self::MARK
-    }
-
     fn zero(&self) -> Fare {
-        Fare {
-            points: 0,
-            seconds: 0,
-        }
+        Fare::default()
     }
 
     fn of_leg(&self, leg: Leg) -> Fare {
@@ -46,6 +39,6 @@ impl CostModel for PointsThenSeconds {
     }
 
     fn before(&self, a: Fare, b: Fare) -> bool {
-        a.points < b.points || (a.points == b.points && a.seconds < b.seconds)
+        a < b
     }
 }

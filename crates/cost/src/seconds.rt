@@ -4,7 +4,7 @@ ghost use Rattle.cost.specs.Seconds.{seconds, seconds_laws};
 use crate::model::CostModel;
 use network::leg::Leg;
 
-// Adds seconds.
+/// Adds seconds.
 #[derive(Clone, Copy, Debug)]
 pub struct Seconds;
 
@@ -13,15 +13,11 @@ impl CostModel for Seconds {
 
     const MARK: u8 = b'S';
 
+    ghost MARK = { 83 };
+
     ghost costs = { λ _. seconds };
 
     ghost laws = { λ _. seconds_laws };
-
-    ghost letter = { 83 };
-
-    fn mark_byte() -> u8 {
-        Self::MARK
-    }
 
     fn zero(&self) -> u32 {
         0

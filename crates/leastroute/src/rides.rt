@@ -13,6 +13,7 @@ use network::network::Network;
 use network::refusal::Refusal;
 use search::least::least_route;
 use search_types::bars::Bars;
+use search_types::ends::Ends;
 use search_types::entry::Entry;
 use search_types::leg_list::LegList;
 
@@ -29,7 +30,7 @@ fn least_ride<N: Network, K: CostModel>(
 {
     let bars = Bars::none();
     let mut legs = LegList::new();
-    match least_route(network, model, &bars, start, goal, workspace, &mut legs) {
+    match least_route(network, model, &bars, Ends { start, goal }, workspace, &mut legs) {
         Ok(()) => Ok(Ride {
             fare: fare(network, legs.legs()),
             legs,

@@ -15,15 +15,11 @@ impl CostModel for Counted {
 
     const MARK: u8 = b'C';
 
+    ghost MARK = { 67 };
+
     ghost costs = { λ _. counted };
 
     ghost laws = { λ _. counted_laws };
-
-    ghost letter = { 67 };
-
-    fn mark_byte() -> u8 {
-        Self::MARK
-    }
 
     fn zero(&self) -> u32 {
         0

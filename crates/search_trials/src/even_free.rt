@@ -14,15 +14,11 @@ impl CostModel for EvenFree {
 
     const MARK: u8 = b'E';
 
+    ghost MARK = { 69 };
+
     ghost costs = { λ _. even_free };
 
     ghost laws = { λ _. even_free_laws };
-
-    ghost letter = { 69 };
-
-    fn mark_byte() -> u8 {
-        Self::MARK
-    }
 
     fn zero(&self) -> u32 {
         0

@@ -5,6 +5,7 @@ use network::network::Network;
 use network::refusal::Refusal;
 use search::least::least_route;
 use search_types::bars::Bars;
+use search_types::ends::Ends;
 use search_types::entry::Entry;
 use search_types::leg_list::LegList;
 use std::process::Abort;
@@ -43,7 +44,8 @@ pub(crate) fn check_answer<N: Network, K: CostModel>(
     };
     fill(workspace, soiled);
     let old = *route;
-    let answer = least_route(network, model, &bars, start, goal, workspace, route);
+    let ends = Ends { start, goal };
+    let answer = least_route(network, model, &bars, ends, workspace, route);
     match expected {
         Ok(legs) => {
             assert_eq!(rt; answer, Ok(()));

@@ -1,3 +1,4 @@
 pub mod Bars
+pub mod Ends
 pub mod Entries
 pub mod Legs

@@ -5,7 +5,7 @@ ghost use Rattle.search_types.specs.Bars.{bars_of, barred};
 
 use sets::number_set::NumberSet;
 
-// Stations below 64 and leg numbers below 512, as many as a network can have.
+/// Stations below 64 and leg numbers below 512, as many as a network can have.
 #[derive(Clone, Copy, Debug)]
 pub struct Bars {
     stations: NumberSet<1>,
@@ -13,7 +13,7 @@ pub struct Bars {
 }
 
 impl Bars {
-    // Nothing is barred.
+    /// Nothing is barred.
     pub fn none() -> Bars
         ensures { bars_of result ≡ no_bars }
     {
@@ -23,7 +23,7 @@ impl Bars {
         }
     }
 
-    // Bars a station below 64; any other changes nothing.
+    /// Bars a station below 64; any other changes nothing.
     pub fn bar_station(&mut self, station: u8)
         ensures stations { (s : ℕ) → (bars_of self.new).station s ≡ barred 64 station (bars_of self.old).station s }
         ensures legs { (bars_of self.new).leg ≡ (bars_of self.old).leg }
@@ -31,7 +31,7 @@ impl Bars {
         self.stations.put(u16::from(station), true);
     }
 
-    // Bars a leg number below 512; any other changes nothing.
+    /// Bars a leg number below 512; any other changes nothing.
     pub fn bar_leg(&mut self, number: u16)
         ensures legs { (i : ℕ) → (bars_of self.new).leg i ≡ barred 512 number (bars_of self.old).leg i }
         ensures stations { (bars_of self.new).station ≡ (bars_of self.old).station }

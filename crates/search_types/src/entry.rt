@@ -4,15 +4,15 @@ ghost use Rattle.search_types.specs.Entries.{sooner, sooner_strict};
 use cost::model::CostModel;
 use queue::order::Order;
 
-// What a search keeps of a station.
+/// What a search keeps of a station.
 #[derive(Clone, Copy, Debug)]
 pub struct Entry<C> {
-    // what the rest of the way costs, from this station to the goal
+    /// What the rest of the way costs, from this station to the goal.
     pub cost: C,
     pub station: u8,
 }
 
-// By the cost, and at equal cost by the station.
+/// By the cost, and at equal cost by the station.
 #[derive(Drop)]
 pub struct ByCost<'m, K> {
     pub model: &'m K,
@@ -26,12 +26,7 @@ impl<'m, K: CostModel> Order for ByCost<'m, K> {
     ghost strict = { λ x. sooner_strict (K.CostModel.costs x.model.now) (K.CostModel.laws x.model.now) };
 
     fn comes_before(&self, a: Entry<K::Cost>, b: Entry<K::Cost>) -> bool {
-        if self.model.before(a.cost, b.cost) {
-            return true;
-        }
-        if self.model.before(b.cost, a.cost) {
-            return false;
-        }
-        a.station < b.station
+        self.model.before(a.cost, b.cost)
+            || (!self.model.before(b.cost, a.cost) && a.station < b.station)
     }
 }

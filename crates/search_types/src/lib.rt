@@ -1,7 +1,7 @@
-// What a search is handed, and what it gives: bars, the entries of a workspace, and a route's legs.
+// What a search is handed, and what it gives: ends, bars, the entries of a workspace, and a route's legs.
 #![tactic(auto)]
 
 pub mod bars;
+pub mod ends;
 pub mod entry;
 pub mod leg_list;
-mod leg_numbers;
