@@ -5,7 +5,7 @@ use Rattle.network.specs.Meaning.{Meaning, Sound}
 use Rattle.cost.specs.Costs.{Costs, Laws}
 use Rattle.queue.specs.declared.least.Least.{Least}
 use Rattle.queue.specs.declared.queue.Queue.{Queue}
-use Rattle.queue.specs.Waiting.{taken, waiting, held, gone, room, has_room, waits_at, Comes}
+use Rattle.queue.specs.Waiting.{taken, waiting, held, gone, room, has_room, waits_at, Keeps, Comes}
 use Rattle.queue.proofs.Rows.{taken_held, taken_length, gone_within, waiting_length}
 use Rattle.route.specs.Certificate.{Usable}
 use Rattle.search_types.specs.declared.entry.Entry.{Entry}
@@ -63,17 +63,17 @@ module _ {K C : Type 0} (k : Costs C) (laws : Laws k) (s : Search K) (i : ℕ) (
         settles_over k laws (network_of s) sound (barred_in s) s.goal (gone q) i (held q) places stage.settles is.some last.station (ap (λ e. e.station) the_last) l at to (omega (arith, open', is_place)) a last.cost r ea (sym (ap (λ e. e.cost) the_last)) joined
         ∙ ap (λ e. k.join (k.of_leg l) e.cost) the_last
 
-    module _ (g : Usable (network_of s) (barred_in s) i l) (x : C) (ex : x ≡ k.join (k.of_leg l) last.cost) (q' : Queue (Entry C)) (gs : gone q' ≡ gone q) (rs : room q' ≡ room q) where
+    module _ (g : Usable (network_of s) (barred_in s) i l) (x : C) (ex : x ≡ k.join (k.of_leg l) last.cost) (q' : Queue (Entry C)) (keeps : Keeps q q') where
       ex' : x ≡ k.join (k.of_leg l) (get_or (held q) (gone q - 1) (blank k)).cost
       ex' = ex ∙ ap (λ e. k.join (k.of_leg l) e.cost) (sym the_last)
 
       pub relax_insert : 64 ≤ w → held q' ≡ cond (has_room q) (held q ++ record { cost = x; station = l.from } ∷ []) (held q) → (places' : List ℕ) → places' ≡ set places f (length (held q)) → Stage k s (suc i) q' places'
       relax_insert new hs places' ps = record {
-        settles = subst (λ n. Settles k (network_of s) (barred_in s) s.goal n (suc i) (held q') places') (sym gs)
+        settles = subst (λ n. Settles k (network_of s) (barred_in s) s.goal n (suc i) (held q') places') (sym keeps.gone_is)
             (subst (λ es. Settles k (network_of s) (barred_in s) s.goal (gone q) (suc i) es places') (sym (hs ∙ cond-true (has_room q) (held q ++ record { cost = x; station = l.from } ∷ []) (held q) free))
             (subst (λ ps'. Settles k (network_of s) (barred_in s) s.goal (gone q) (suc i) (held q ++ record { cost = x; station = l.from } ∷ []) ps') (sym (ps ∙ ap (λ v. set places v (length (held q))) ef))
             (settles_insert k laws (network_of s) sound (barred_in s) s.goal (gone q) i (held q) places stage.settles is.some last.station (ap (λ e. e.station) the_last) l at to g x ex' (omega (arith, new, is_place)))));
-        roomy = subst (λ n. (network_of s).stations ≤ n) (sym rs) stage.roomy;
+        roomy = subst (λ n. (network_of s).stations ≤ n) (sym keeps.same_row.room_is) stage.roomy;
       }
         where
           free : has_room q ≡ true
@@ -81,11 +81,11 @@ module _ {K C : Type 0} (k : Costs C) (laws : Laws k) (s : Search K) (i : ℕ) (
 
       pub relax_replace : gone q ≤ w → w ≤ 63 → k.before x (get_or (held q) w (blank k)).cost ≡ true → held q' ≡ cond (waits_at q w) (set (held q) w (record { cost = x; station = l.from })) (held q) → Stage k s (suc i) q' places
       relax_replace open' near better hs = record {
-        settles = subst (λ n. Settles k (network_of s) (barred_in s) s.goal n (suc i) (held q') places) (sym gs)
+        settles = subst (λ n. Settles k (network_of s) (barred_in s) s.goal n (suc i) (held q') places) (sym keeps.gone_is)
             (subst (λ es. Settles k (network_of s) (barred_in s) s.goal (gone q) (suc i) es places) (sym (hs ∙ cond-true (waits_at q w) (set (held q) w (record { cost = x; station = l.from })) (held q) waits ∙ ap (λ v. set (held q) v (record { cost = x; station = l.from })) is_place))
             (settles_replace k laws (network_of s) sound (barred_in s) s.goal (gone q) i (held q) places stage.settles is.some last.station (ap (λ e. e.station) the_last) l at to g x ex' (omega (arith, open', is_place)) (omega (arith, near, is_place))
             (subst (λ v. k.before x (get_or (held q) v (blank k)).cost ≡ true) is_place better)));
-        roomy = subst (λ n. (network_of s).stations ≤ n) (sym rs) stage.roomy;
+        roomy = subst (λ n. (network_of s).stations ≤ n) (sym keeps.same_row.room_is) stage.roomy;
       }
         where
           waits : waits_at q w ≡ true
@@ -117,10 +117,10 @@ none_before m u i None f e l at to h h' = f e h (subst (λ x. Arrives x u) (sym 
 none_before m u i (Some e') f e l at to h h' = f.lowest e h h' (subst (λ x. Arrives x u) (sym at) to)
 
 module _ {K C : Type 0} (k : Costs C) (laws : Laws k) (s : Search K) (q : Queue (Entry C)) (places : List ℕ) where
-  pub last_kept : (q' : Queue (Entry C)) (last : Entry C) → Last k q last → taken q' ≡ taken q → gone q' ≡ gone q → Last k q' last
-  last_kept q' last is ts gs = record {
-    some = omega (arith, is.some, gs);
-    is = ap (λ n. get_or (taken q') (n - 1) (blank k)) gs ∙ ap (λ xs. get_or xs (gone q - 1) (blank k)) ts ∙ is.is;
+  pub last_kept : (q' : Queue (Entry C)) (last : Entry C) → Last k q last → Keeps q q' → Last k q' last
+  last_kept q' last is keeps = record {
+    some = omega (arith, is.some, keeps.gone_is);
+    is = ap (λ n. get_or (taken q') (n - 1) (blank k)) keeps.gone_is ∙ ap (λ xs. get_or xs (gone q - 1) (blank k)) keeps.taken_is ∙ is.is;
   }
 
   pub relaxing : (i : ℕ) (last : Entry C) (o : Option ℕ) → Stage k s i q places → Last k q last → FirstFrom (network_of s) last.station i o → Relaxing k s last o q places
@@ -144,7 +144,7 @@ module _ {K C : Type 0} (k : Costs C) (laws : Laws k) (s : Search K) (q : Queue 
     record {
       settles = subst (λ n. Settles k (network_of s) (barred_in s) s.goal n 0 (held q') (places_after k q' l places)) (sym gs)
           (settles_pop k laws (network_of s) (snapshot_sound s.network.now) (barred_in s) s.goal (gone q) (network_of s).legs (held q) places stage.settles l.place (held q') swap (places_after k q' l places) made refl least);
-      roomy = omega (arith, stage.roomy, comes.moved.room_is);
+      roomy = omega (arith, stage.roomy, comes.moved.same_row.room_is);
     },
     record {
       some = omega (arith, gs);

@@ -3,7 +3,7 @@ use Rattle.std.proofs.Common.{◌≡◌, ℕ, ◌<◌, ◌≤◌, true, cond, Li
 use Rattle.network.specs.Meaning.{Meaning, Sound}
 use Rattle.cost.specs.Costs.{Costs, Laws}
 use Rattle.queue.specs.declared.queue.Queue.{Queue}
-use Rattle.queue.specs.Waiting.{held, gone, room, has_room}
+use Rattle.queue.specs.Waiting.{held, gone, room, has_room, Keeps}
 use Rattle.route.specs.Routes.{Bars, Route, Least}
 use Rattle.route.specs.Certificate.{Labelling, Answers, Short, follow}
 use Rattle.route.proofs.Certify.{theorem, chain_settled, route_chain}
@@ -38,13 +38,13 @@ module _ {C : Type 0} (k : Costs C) (laws : Laws k) (m : Meaning) (sound : Sound
 
 -- only the goal waits
 module _ {K C : Type 0} (k : Costs C) (s : Search K) (fits : s.goal < (network_of s).stations) (q q' : Queue (Entry C)) (z : C) (ez : z ≡ k.zero) (none : held q ≡ []) (first : gone q ≡ 0) (roomy : (network_of s).stations ≤ room q) where
-  pub stage_start : (i f : ℕ) → f ≡ s.goal → held q' ≡ cond (has_room q) (held q ++ record { cost = z; station = s.goal } ∷ []) (held q) → gone q' ≡ gone q → room q' ≡ room q → Stage k s i q' (set (replicate 64 64) f 0)
-  stage_start i f ef hs gs rs = record {
-    settles = subst (λ n. Settles k (network_of s) (barred_in s) s.goal n i (held q') (set (replicate 64 64) f 0)) (sym (gs ∙ first))
+  pub stage_start : (i f : ℕ) → f ≡ s.goal → held q' ≡ cond (has_room q) (held q ++ record { cost = z; station = s.goal } ∷ []) (held q) → Keeps q q' → Stage k s i q' (set (replicate 64 64) f 0)
+  stage_start i f ef hs keeps = record {
+    settles = subst (λ n. Settles k (network_of s) (barred_in s) s.goal n i (held q') (set (replicate 64 64) f 0)) (sym (keeps.gone_is ∙ first))
         (subst (λ xs. Settles k (network_of s) (barred_in s) s.goal 0 i xs (set (replicate 64 64) f 0)) (sym (hs ∙ cond-true (has_room q) (held q ++ record { cost = z; station = s.goal } ∷ []) (held q) free ∙ ap (λ xs. xs ++ record { cost = z; station = s.goal } ∷ []) none))
         (subst (λ v. Settles k (network_of s) (barred_in s) s.goal 0 i (record { cost = z; station = s.goal } ∷ []) (set (replicate 64 64) v 0)) (sym ef)
         (settles_start k (network_of s) (barred_in s) s.goal i (snapshot_sound s.network.now) fits z ez)));
-    roomy = subst (λ n. (network_of s).stations ≤ n) (sym rs) roomy;
+    roomy = subst (λ n. (network_of s).stations ≤ n) (sym keeps.same_row.room_is) roomy;
   }
     where
       free : has_room q ≡ true

@@ -1,6 +1,6 @@
 // The first phase of a search: the cost from each station to the goal, settled in rising order.
 ghost use Rattle.std.specs.Prelude.{◌≡◌, suc, ◌<◌, length, Some, Decides};
-ghost use Rattle.queue.specs.Waiting.{taken, held, room, gone};
+ghost use Rattle.queue.specs.Waiting.{held, SameRow, Keeps};
 ghost use Rattle.route.specs.Certificate.{Usable};
 ghost use Rattle.search.specs.Stages.{network_of, barred_in, Stage, Last, places_after};
 ghost use Rattle.search.specs.Tables.{Settled};
@@ -43,10 +43,7 @@ impl<'a, K: CostModel> Search<'a, K> {
         requires last { Last (K.CostModel.costs self.now.model.now) queue.old last }
         requires arrives { Arrives ((network_of self.now).at number) last.station }
         ensures stage { Stage (K.CostModel.costs self.now.model.now) self.now (suc number) queue.new places.new }
-        ensures taken { taken queue.new ≡ taken queue.old }
-        ensures gone { gone queue.new ≡ gone queue.old }
-        ensures room { room queue.new ≡ room queue.old }
-        ensures lent { queue.new.row.ghost_name ≡ queue.old.row.ghost_name }
+        ensures keeps { Keeps queue.old queue.new }
     {
         let Some(leg) = self.network.leg_at(number) else {
             return;
@@ -81,9 +78,7 @@ impl<'a, K: CostModel> Search<'a, K> {
         requires stage { Stage (K.CostModel.costs self.now.model.now) self.now 0 queue.old places.old }
         requires last { Last (K.CostModel.costs self.now.model.now) queue.old last }
         ensures stage { Stage (K.CostModel.costs self.now.model.now) self.now (network_of self.now).legs queue.new places.new }
-        ensures gone { gone queue.new ≡ gone queue.old }
-        ensures room { room queue.new ≡ room queue.old }
-        ensures lent { queue.new.row.ghost_name ≡ queue.old.row.ghost_name }
+        ensures keeps { Keeps queue.old queue.new }
     {
         let mut arrival = self.network.first_arrival(last.station);
         while let Some(number) = arrival {
@@ -104,9 +99,7 @@ impl<'a, K: CostModel> Search<'a, K> {
         requires last { Last (K.CostModel.costs self.now.model.now) queue.old least.entry }
         requires place { least.place < length (held queue.old) }
         ensures stage { Stage (K.CostModel.costs self.now.model.now) self.now (network_of self.now).legs queue.new places.new }
-        ensures gone { gone queue.new ≡ gone queue.old }
-        ensures room { room queue.new ≡ room queue.old }
-        ensures lent { queue.new.row.ghost_name ≡ queue.old.row.ghost_name }
+        ensures keeps { Keeps queue.old queue.new }
     {
         let moved = queue.held()[least.place].station;
         places[usize::from(moved)] = least.place as u8;
@@ -118,8 +111,7 @@ impl<'a, K: CostModel> Search<'a, K> {
     pub(crate) fn settle(&self, queue: &mut Queue<Entry<K::Cost>>, places: &mut [u8; 64])
         requires { Stage (K.CostModel.costs self.now.model.now) self.now (network_of self.now).legs queue.old places.old }
         ensures settled { Settled (K.CostModel.costs self.now.model.now) (network_of self.now) (barred_in self.now) self.now.goal (held queue.new) places.new }
-        ensures room { room queue.new ≡ room queue.old }
-        ensures lent { queue.new.row.ghost_name ≡ queue.old.row.ghost_name }
+        ensures same_row { SameRow queue.old queue.new }
     {
         let order = ByCost { model: self.model };
         while let Some(least) = queue.pop_least(&order) {

@@ -13,7 +13,7 @@ read : (places : List ℕ) (start f : ℕ) → length places ≡ 64 → f ≡ st
 read places start f long e n h h' = ap (λ v. get_or places v 0) e ∙ get_or_default places start 0 64 (omega (arith, long, h, h'))
 
 pub settle-requires : goal.settle-requires
-settle-requires g c = stage_start (g.K.CostModel.costs c.args.self.now.model.now) c.args.self.now c.requires.goal c.over-queue.result c.insert.new.self c.zero.result c.zero.ensures c.over-queue.ensures.held c.over-queue.ensures.gone (omega (arith, c.requires.room, c.over-queue.ensures.room)) (network_of c.args.self.now).legs c.from.result c.from.ensures c.insert.ensures.held c.insert.ensures.gone c.insert.ensures.room
+settle-requires g c = stage_start (g.K.CostModel.costs c.args.self.now.model.now) c.args.self.now c.requires.goal c.over-queue.result c.insert.new.self c.zero.result c.zero.ensures c.over-queue.ensures.held c.over-queue.ensures.gone (omega (arith, c.requires.room, c.over-queue.ensures.room)) (network_of c.args.self.now).legs c.from.result c.from.ensures c.insert.ensures.held c.insert.ensures.keeps
 
 pub returns-then-places-from-gt63 : goal.returns-then-places-from-gt63
 returns-then-places-from-gt63 g c =

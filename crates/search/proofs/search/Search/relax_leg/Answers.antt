@@ -1,6 +1,7 @@
 use Rattle.std.proofs.Common.{◌≡◌, ◌<◌, ◌≤◌, Bool, length, get_or, set, sym, refl, ap, ◌∙◌, subst, inl, inr, arith}
 use Rattle.cost.specs.Costs.{Costs}
 use Rattle.queue.specs.Waiting.{held}
+use Rattle.queue.proofs.Rows.{keeps_self}
 use Rattle.search.specs.Tables.{blank}
 use Rattle.search.proofs.Tables.{placed_most}
 use Rattle.search.proofs.Relaxes.{relax_pass, relax_over, relax_insert, relax_replace, placed_in}
@@ -21,10 +22,7 @@ returns-then-place-gone g c =
     let at = sym c.in-Some.ensures in
     record {
       stage = relax_pass k laws s c.args.number q c.args.places.now c.args.last c.requires.stage c.requires.last c.requires.arrives c.in-Some.leg at c.from-from.result c.from-place.result c.from-from.ensures c.from-place.ensures (λ u. inl (omega (arith, c.if-place-gone.true, c.gone.ensures)));
-      taken = refl;
-      gone = refl;
-      room = refl;
-      lent = refl;
+      keeps = keeps_self q;
     }
 
 pub returns-then-not-may_use : goal.returns-then-not-may_use
@@ -36,10 +34,7 @@ returns-then-not-may_use g c =
     let at = sym c.in-Some.ensures in
     record {
       stage = relax_pass k laws s c.args.number q c.args.places.now c.args.last c.requires.stage c.requires.last c.requires.arrives c.in-Some.leg at c.from-from.result c.from-place.result c.from-from.ensures c.from-place.ensures (λ u. absurd (both_ways c.may_use.result c.if-not-may_use.true (c.may_use.ensures.1 u)));
-      taken = refl;
-      gone = refl;
-      room = refl;
-      lent = refl;
+      keeps = keeps_self q;
     }
 
 pub overflow_cast-places : goal.overflow_cast-places
@@ -91,11 +86,8 @@ returns-then-place-gt63 g c =
     let free = c.may_use.ensures.0 c.if-not-may_use.false in
     let over = relax_over k laws s c.args.number q c.args.places.now c.args.last c.requires.stage c.requires.last c.requires.arrives c.in-Some.leg at c.from-from.result c.from-place.result c.from-from.ensures c.from-place.ensures (omega (arith, c.if-place-gone.false, c.gone.ensures)) c.of_leg.result c.join-cost.result c.of_leg.ensures c.join-cost.ensures in
     record {
-      stage = relax_insert k laws s c.args.number q c.args.places.now c.args.last c.requires.stage c.requires.last c.requires.arrives c.in-Some.leg at c.from-from.result c.from-place.result c.from-from.ensures c.from-place.ensures free c.join-cost.result over c.insert.new.self c.insert.ensures.gone c.insert.ensures.room (omega (arith, c.if-place-gt63.true)) c.insert.ensures.held _ (ap (λ xs. set c.args.places.now c.from-from.result (length xs)) c.held.ensures);
-      taken = c.insert.ensures.taken;
-      gone = c.insert.ensures.gone;
-      room = c.insert.ensures.room;
-      lent = c.insert.ensures.lent;
+      stage = relax_insert k laws s c.args.number q c.args.places.now c.args.last c.requires.stage c.requires.last c.requires.arrives c.in-Some.leg at c.from-from.result c.from-place.result c.from-from.ensures c.from-place.ensures free c.join-cost.result over c.insert.new.self c.insert.ensures.keeps (omega (arith, c.if-place-gt63.true)) c.insert.ensures.held _ (ap (λ xs. set c.args.places.now c.from-from.result (length xs)) c.held.ensures);
+      keeps = c.insert.ensures.keeps;
     }
 
 pub returns-then-before : goal.returns-then-before
@@ -109,11 +101,8 @@ returns-then-before g c =
     let over = relax_over k laws s c.args.number q c.args.places.now c.args.last c.requires.stage c.requires.last c.requires.arrives c.in-Some.leg at c.from-from.result c.from-place.result c.from-from.ensures c.from-place.ensures (omega (arith, c.if-place-gone.false, c.gone.ensures)) c.of_leg.result c.join-cost.result c.of_leg.ensures c.join-cost.ensures in
     let read = ap (λ xs. (get_or xs c.from-place.result c.index-held-place.result).cost) c.held-else-place-gt63.ensures ∙ ap (λ e. e.cost) (get_or_default (held q) c.from-place.result c.index-held-place.result (blank k) (placed_in k laws s c.args.number q c.args.places.now c.args.last c.requires.stage c.requires.last c.requires.arrives c.in-Some.leg at c.from-from.result c.from-place.result c.from-from.ensures c.from-place.ensures c.if-place-gt63.false)) in
     record {
-      stage = relax_replace k laws s c.args.number q c.args.places.now c.args.last c.requires.stage c.requires.last c.requires.arrives c.in-Some.leg at c.from-from.result c.from-place.result c.from-from.ensures c.from-place.ensures free c.join-cost.result over c.replace.new.self c.replace.ensures.gone c.replace.ensures.room (omega (arith, c.if-place-gone.false, c.gone.ensures)) c.if-place-gt63.false (before_as k _ _ _ _ _ _ refl read c.before-else-place-gt63.ensures c.if-before.true) c.replace.ensures.held;
-      taken = c.replace.ensures.taken;
-      gone = c.replace.ensures.gone;
-      room = c.replace.ensures.room;
-      lent = c.replace.ensures.lent;
+      stage = relax_replace k laws s c.args.number q c.args.places.now c.args.last c.requires.stage c.requires.last c.requires.arrives c.in-Some.leg at c.from-from.result c.from-place.result c.from-from.ensures c.from-place.ensures free c.join-cost.result over c.replace.new.self c.replace.ensures.keeps (omega (arith, c.if-place-gone.false, c.gone.ensures)) c.if-place-gt63.false (before_as k _ _ _ _ _ _ refl read c.before-else-place-gt63.ensures c.if-before.true) c.replace.ensures.held;
+      keeps = c.replace.ensures.keeps;
     }
 
 pub returns-else-before : goal.returns-else-before
@@ -128,8 +117,5 @@ returns-else-before g c =
     let read = ap (λ xs. (get_or xs c.from-place.result c.index-held-place.result).cost) c.held-else-place-gt63.ensures ∙ ap (λ e. e.cost) (get_or_default (held q) c.from-place.result c.index-held-place.result (blank k) (placed_in k laws s c.args.number q c.args.places.now c.args.last c.requires.stage c.requires.last c.requires.arrives c.in-Some.leg at c.from-from.result c.from-place.result c.from-from.ensures c.from-place.ensures c.if-place-gt63.false)) in
     record {
       stage = relax_pass k laws s c.args.number q c.args.places.now c.args.last c.requires.stage c.requires.last c.requires.arrives c.in-Some.leg at c.from-from.result c.from-place.result c.from-from.ensures c.from-place.ensures (λ u. inr (c.if-place-gt63.false, before_as k _ _ _ _ _ _ over read c.before-else-place-gt63.ensures c.if-before.false));
-      taken = refl;
-      gone = refl;
-      room = refl;
-      lent = refl;
+      keeps = keeps_self q;
     }
