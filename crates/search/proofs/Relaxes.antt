@@ -14,7 +14,7 @@ use Rattle.search_types.specs.Entries.{sooner}
 use Rattle.search.specs.Stages.{network_of, barred_in, Stage, Last, due, Arriving, left, Relaxing, places_after}
 use Rattle.search.specs.Tables.{blank, place, cost_of, Swap, Settles, Settled}
 use Rattle.search.proofs.Tables.{placed_room}
-use Rattle.search.proofs.Places.{read_place, settles_end, settles_pop, settles_skip, settles_pass, settles_over, settles_insert, settles_replace}
+use Rattle.search.proofs.Places.{settles_end, settles_pop, settles_skip, settles_pass, settles_over, settles_insert, settles_replace}
 use Rattle.snapshot.specs.Meanings.{Arrives, FirstFrom, NextFrom, NextArrival}
 use Rattle.snapshot.specs.Sounds.{snapshot_sound}
 use Rattle.std.proofs.ByRecursion.{All-get_or}
@@ -25,67 +25,72 @@ use Rattle.std.proofs.lemmas.Bool.{lt-ltb, le-leb, and_from, cond-true}
 pub last_held : {C : Type 0} (k : Costs C) (q : Queue (Entry C)) (last : Entry C) → Last k q last → get_or (held q) (gone q - 1) (blank k) ≡ last
 last_held k q last is = sym (get_or-take (gone q) (held q) (gone q - 1) (blank k) (omega (arith, is.some))) ∙ ap (λ xs. get_or xs (gone q - 1) (blank k)) (sym (taken_held q)) ∙ is.is
 
-module _ {K C : Type 0} (k : Costs C) (laws : Laws k) (s : Search K) (i : ℕ) (q : Queue (Entry C)) (places : List ℕ) (last : Entry C) (stage : Stage k s i q places) (is : Last k q last) (arrives : Arrives ((network_of s).at i) last.station) (l : Leg) (at : (network_of s).at i ≡ Some l) where
+-- a leg into the station that came out last
+pub record Arrived {K C : Type 0} (k : Costs C) (s : Search K) (i : ℕ) (q : Queue (Entry C)) (places : List (Option ℕ)) (last : Entry C) (l : Leg) : Type 0 where
+  pub laws : Laws k
+  pub stage : Stage k s i q places
+  pub last_is : Last k q last
+  pub arrives : Arrives ((network_of s).at i) last.station
+  pub at : (network_of s).at i ≡ Some l
+
+module _ {K C : Type 0} {k : Costs C} {s : Search K} {i : ℕ} {q : Queue (Entry C)} {places : List (Option ℕ)} {last : Entry C} {l : Leg} (a : Arrived k s i q places last l) where
   sound : Sound (network_of s)
   sound = snapshot_sound s.network.now
 
   the_last : get_or (held q) (gone q - 1) (blank k) ≡ last
-  the_last = last_held k q last is
+  the_last = last_held k q last a.last_is
 
   to : l.to ≡ last.station
-  to = subst (λ o. Arrives o last.station) at arrives
+  to = subst (λ o. Arrives o last.station) a.at a.arrives
 
   fits : l.from < (network_of s).stations
-  fits = (sound.fits i l at).from_fits
+  fits = (sound.fits i l a.at).from_fits
 
   pub from_below : l.from < 64
   from_below = omega (arith, fits, sound.stations_high)
 
-  -- the place that was read for the leg's start
-  module _ (f w : ℕ) (ef : f ≡ l.from) (ew : w ≡ get_or places f 0) where
-    is_place : w ≡ place places l.from
-    is_place = ew ∙ ap (λ v. get_or places v 0) ef ∙ read_place k laws (network_of s) sound (barred_in s) s.goal (gone q) i (held q) places stage.settles l.from from_below
-
+  -- w is where the leg's start stands
+  module _ (w : ℕ) (is_place : w ≡ place places l.from) where
     pub placed_in : w ≤ 63 → w < length (held q)
-    placed_in near = subst (λ x. x < length (held q)) (sym is_place) (stage.settles.placed.there l.from (omega (arith, near, is_place))).0
+    placed_in near = subst (λ x. x < length (held q)) (sym is_place) (a.stage.settles.placed.there l.from (omega (arith, near, is_place))).0
 
     pub relax_pass : ((Usable (network_of s) (barred_in s) i l → (w < gone q) ⊎ ((w ≤ 63) × (k.before (k.join (k.of_leg l) last.cost) (get_or (held q) w (blank k)).cost ≡ false)))) → Stage k s (suc i) q places
     relax_pass pass = record {
-      settles = settles_pass k laws (network_of s) sound (barred_in s) s.goal (gone q) i (held q) places stage.settles is.some last.station (ap (λ e. e.station) the_last) l at to
+      settles = settles_pass k a.laws (network_of s) sound (barred_in s) s.goal (gone q) i (held q) places a.stage.settles a.last_is.some last.station (ap (λ e. e.station) the_last) l a.at to
           (λ g. subst (λ c. (place places l.from < gone q) ⊎ ((place places l.from ≤ 63) × (k.before (k.join (k.of_leg l) c) (cost_of k (held q) places l.from) ≡ false))) (sym (ap (λ e. e.cost) the_last))
           (subst (λ x. (x < gone q) ⊎ ((x ≤ 63) × (k.before (k.join (k.of_leg l) last.cost) (get_or (held q) x (blank k)).cost ≡ false))) is_place (pass g)));
-      roomy = stage.roomy;
+      roomy = a.stage.roomy;
     }
 
     -- what `join` gives
-    pub relax_over : gone q ≤ w → (a r : C) → a ≡ k.of_leg l → ((m n : ℕ) → k.stands a m → k.stands last.cost n → m + n ≤ 63 → r ≡ k.join a last.cost) → r ≡ k.join (k.of_leg l) last.cost
-    relax_over open' a r ea joined =
-        settles_over k laws (network_of s) sound (barred_in s) s.goal (gone q) i (held q) places stage.settles is.some last.station (ap (λ e. e.station) the_last) l at to (omega (arith, open', is_place)) a last.cost r ea (sym (ap (λ e. e.cost) the_last)) joined
+    pub relax_over : gone q ≤ w → (c r : C) → c ≡ k.of_leg l → ((m n : ℕ) → k.stands c m → k.stands last.cost n → m + n ≤ 63 → r ≡ k.join c last.cost) → r ≡ k.join (k.of_leg l) last.cost
+    relax_over open' c r ec joined =
+        settles_over k a.laws (network_of s) sound (barred_in s) s.goal (gone q) i (held q) places a.stage.settles a.last_is.some last.station (ap (λ e. e.station) the_last) l a.at to (omega (arith, open', is_place)) c last.cost r ec (sym (ap (λ e. e.cost) the_last)) joined
         ∙ ap (λ e. k.join (k.of_leg l) e.cost) the_last
 
     module _ (g : Usable (network_of s) (barred_in s) i l) (x : C) (ex : x ≡ k.join (k.of_leg l) last.cost) (q' : Queue (Entry C)) (keeps : Keeps q q') where
       ex' : x ≡ k.join (k.of_leg l) (get_or (held q) (gone q - 1) (blank k)).cost
       ex' = ex ∙ ap (λ e. k.join (k.of_leg l) e.cost) (sym the_last)
 
-      pub relax_insert : 64 ≤ w → held q' ≡ cond (has_room q) (held q ++ record { cost = x; station = l.from } ∷ []) (held q) → (places' : List ℕ) → places' ≡ set places f (length (held q)) → Stage k s (suc i) q' places'
+      pub relax_insert : 64 ≤ w → held q' ≡ cond (has_room q) (held q ++ record { cost = x; station = l.from } ∷ []) (held q) → (places' : List (Option ℕ)) → places' ≡ set places l.from (Some (length (held q))) → Stage k s (suc i) q' places'
       relax_insert new hs places' ps = record {
         settles = subst (λ n. Settles k (network_of s) (barred_in s) s.goal n (suc i) (held q') places') (sym keeps.gone_is)
             (subst (λ es. Settles k (network_of s) (barred_in s) s.goal (gone q) (suc i) es places') (sym (hs ∙ cond-true (has_room q) (held q ++ record { cost = x; station = l.from } ∷ []) (held q) free))
-            (subst (λ ps'. Settles k (network_of s) (barred_in s) s.goal (gone q) (suc i) (held q ++ record { cost = x; station = l.from } ∷ []) ps') (sym (ps ∙ ap (λ v. set places v (length (held q))) ef))
-            (settles_insert k laws (network_of s) sound (barred_in s) s.goal (gone q) i (held q) places stage.settles is.some last.station (ap (λ e. e.station) the_last) l at to g x ex' (omega (arith, new, is_place)))));
-        roomy = subst (λ n. (network_of s).stations ≤ n) (sym keeps.same_row.room_is) stage.roomy;
+            (subst (λ ps'. Settles k (network_of s) (barred_in s) s.goal (gone q) (suc i) (held q ++ record { cost = x; station = l.from } ∷ []) ps') (sym ps)
+            (settles_insert k a.laws (network_of s) sound (barred_in s) s.goal (gone q) i (held q) places a.stage.settles a.last_is.some last.station (ap (λ e. e.station) the_last) l a.at to g x ex' (omega (arith, new, is_place)))));
+        roomy = subst (λ n. (network_of s).stations ≤ n) (sym keeps.same_row.room_is) a.stage.roomy;
       }
         where
           free : has_room q ≡ true
-          free = lt-ltb (length (held q)) (room q) (omega (arith, stage.roomy, placed_room k (network_of s).stations sound.stations_high (held q) places stage.settles.placed l.from fits (omega (arith, new, is_place))))
+          free = lt-ltb (length (held q)) (room q) (omega (arith, a.stage.roomy, placed_room k (network_of s).stations sound.stations_high (held q) places a.stage.settles.placed l.from fits (omega (arith, new, is_place))))
 
       pub relax_replace : gone q ≤ w → w ≤ 63 → k.before x (get_or (held q) w (blank k)).cost ≡ true → held q' ≡ cond (waits_at q w) (set (held q) w (record { cost = x; station = l.from })) (held q) → Stage k s (suc i) q' places
       relax_replace open' near better hs = record {
         settles = subst (λ n. Settles k (network_of s) (barred_in s) s.goal n (suc i) (held q') places) (sym keeps.gone_is)
             (subst (λ es. Settles k (network_of s) (barred_in s) s.goal (gone q) (suc i) es places) (sym (hs ∙ cond-true (waits_at q w) (set (held q) w (record { cost = x; station = l.from })) (held q) waits ∙ ap (λ v. set (held q) v (record { cost = x; station = l.from })) is_place))
-            (settles_replace k laws (network_of s) sound (barred_in s) s.goal (gone q) i (held q) places stage.settles is.some last.station (ap (λ e. e.station) the_last) l at to g x ex' (omega (arith, open', is_place)) (omega (arith, near, is_place))
+            (settles_replace k a.laws (network_of s) sound (barred_in s) s.goal (gone q) i (held q) places a.stage.settles a.last_is.some last.station (ap (λ e. e.station) the_last) l a.at to g x ex' (omega (arith, open', is_place)) (omega (arith, near, is_place))
             (subst (λ v. k.before x (get_or (held q) v (blank k)).cost ≡ true) is_place better)));
-        roomy = subst (λ n. (network_of s).stations ≤ n) (sym keeps.same_row.room_is) stage.roomy;
+        roomy = subst (λ n. (network_of s).stations ≤ n) (sym keeps.same_row.room_is) a.stage.roomy;
       }
         where
           waits : waits_at q w ≡ true
@@ -116,7 +121,7 @@ pub none_before : (m : Meaning) (u i : ℕ) (o : Option ℕ) → FirstFrom m u i
 none_before m u i None f e l at to h h' = f e h (subst (λ x. Arrives x u) (sym at) to)
 none_before m u i (Some e') f e l at to h h' = f.lowest e h h' (subst (λ x. Arrives x u) (sym at) to)
 
-module _ {K C : Type 0} (k : Costs C) (laws : Laws k) (s : Search K) (q : Queue (Entry C)) (places : List ℕ) where
+module _ {K C : Type 0} (k : Costs C) (laws : Laws k) (s : Search K) (q : Queue (Entry C)) (places : List (Option ℕ)) where
   pub last_kept : (q' : Queue (Entry C)) (last : Entry C) → Last k q last → Keeps q q' → Last k q' last
   last_kept q' last is keeps = record {
     some = omega (arith, is.some, keeps.gone_is);
@@ -168,11 +173,11 @@ module _ {K C : Type 0} (k : Costs C) (laws : Laws k) (s : Search K) (q : Queue 
         others = λ j no ni. comes.moved.elsewhere j (blank k) no ni;
       }
 
-      made : places_after k q' l places ≡ set (set places (get_or (held q) (gone q) (blank k)).station l.place) (get_or (held q) l.place (blank k)).station (gone q)
+      made : places_after k q' l places ≡ set (set places (get_or (held q) (gone q) (blank k)).station (Some l.place)) (get_or (held q) l.place (blank k)).station (Some (gone q))
       made =
-          ap (λ v. set (set places v l.place) l.entry.station (gone q' - 1)) (ap (λ e. e.station) (comes.moved.at_place (blank k)))
-          ∙ ap (λ v. set (set places (get_or (held q) (gone q) (blank k)).station l.place) v (gone q' - 1)) (ap (λ e. e.station) (comes.moved.entry (blank k)))
-          ∙ ap (λ n. set (set places (get_or (held q) (gone q) (blank k)).station l.place) (get_or (held q) l.place (blank k)).station n) one_less
+          ap (λ v. set (set places v (Some l.place)) l.entry.station (Some (gone q' - 1))) (ap (λ e. e.station) (comes.moved.at_place (blank k)))
+          ∙ ap (λ v. set (set places (get_or (held q) (gone q) (blank k)).station (Some l.place)) v (Some (gone q' - 1))) (ap (λ e. e.station) (comes.moved.entry (blank k)))
+          ∙ ap (λ n. set (set places (get_or (held q) (gone q) (blank k)).station (Some l.place)) (get_or (held q) l.place (blank k)).station (Some n)) one_less
 
       least : (j : ℕ) → gone q ≤ j → j < length (held q) → k.before (get_or (held q) j (blank k)).cost (get_or (held q) l.place (blank k)).cost ≡ false
       least j low high =

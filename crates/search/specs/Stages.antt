@@ -22,7 +22,7 @@ abbrev pub barred_in : {K : Type 0} → Search K → routes.Bars
 barred_in s = bars_of s.bars.now
 
 -- phase 1, at the leg number i, with room for every station
-pub record Stage {K C : Type 0} (k : Costs C) (s : Search K) (i : ℕ) (q : Queue (Entry C)) (places : List ℕ) : Type 0 where
+pub record Stage {K C : Type 0} (k : Costs C) (s : Search K) (i : ℕ) (q : Queue (Entry C)) (places : List (Option ℕ)) : Type 0 where
   pub settles : Settles k (network_of s) (barred_in s) s.goal (gone q) i (held q) places
   pub roomy : (network_of s).stations ≤ room q
 
@@ -46,15 +46,15 @@ left None = 0
 left (Some e) = 512 - e
 
 -- phase 1 while the arrivals at the station that came out last are looked at
-pub record Relaxing {K C : Type 0} (k : Costs C) (s : Search K) (last : Entry C) (arrival : Option ℕ) (q : Queue (Entry C)) (places : List ℕ) : Type 0 where
+pub record Relaxing {K C : Type 0} (k : Costs C) (s : Search K) (last : Entry C) (arrival : Option ℕ) (q : Queue (Entry C)) (places : List (Option ℕ)) : Type 0 where
   pub stage : Stage k s (due (network_of s) arrival) q places
   pub last_is : Last k q last
   pub arriving : Arriving (network_of s) last.station arrival
 
 -- the places once a waiting entry has come out: it stands at the end of those that have, and the entry that stood there
 -- went to its place
-abbrev pub places_after : {C : Type 0} → Costs C → Queue (Entry C) → Least (Entry C) → List ℕ → List ℕ
-places_after k q l places = slice_set (slice_set places (slice_index_or (held q) l.place (blank k)).station l.place) l.entry.station (gone q - 1)
+abbrev pub places_after : {C : Type 0} → Costs C → Queue (Entry C) → Least (Entry C) → List (Option ℕ) → List (Option ℕ)
+places_after k q l places = slice_set (slice_set places (slice_index_or (held q) l.place (blank k)).station (Some l.place)) l.entry.station (Some (gone q - 1))
 
 abbrev pub table_cost : {C : Type 0} → Costs C → CostTable C → ℕ → C
 table_cost k t = cost_of k t.row.now t.places.now

@@ -35,7 +35,7 @@ impl<'a, K: CostModel> Search<'a, K> {
     fn relax_leg(
         &self,
         queue: &mut Queue<Entry<K::Cost>>,
-        places: &mut [u8; 64],
+        places: &mut [Option<u8>; 64],
         last: Entry<K::Cost>,
         number: u16,
     )
@@ -49,8 +49,10 @@ impl<'a, K: CostModel> Search<'a, K> {
             return;
         };
         let from = usize::from(leg.from);
-        let place = usize::from(places[from]);
-        if place < queue.gone() {
+        let place = places[from];
+        if let Some(place) = place
+            && usize::from(place) < queue.gone()
+        {
             return;
         }
         if !self.may_use(number, leg) {
@@ -61,18 +63,24 @@ impl<'a, K: CostModel> Search<'a, K> {
             cost,
             station: leg.from,
         };
-        if place > 63 {
-            places[from] = queue.held().len() as u8;
-            let _ = queue.insert(entry);
-        } else if self.model.before(cost, queue.held()[place].cost) {
-            let _ = queue.replace(place, entry);
+        match place {
+            None => {
+                places[from] = Some(queue.held().len() as u8);
+                let _ = queue.insert(entry);
+            }
+            Some(place) => {
+                let place = usize::from(place);
+                if self.model.before(cost, queue.held()[place].cost) {
+                    let _ = queue.replace(place, entry);
+                }
+            }
         }
     }
     // Every leg into the station that came out last.
     fn relax_arrivals(
         &self,
         queue: &mut Queue<Entry<K::Cost>>,
-        places: &mut [u8; 64],
+        places: &mut [Option<u8>; 64],
         last: Entry<K::Cost>,
     )
         requires stage { Stage (K.CostModel.costs self.now.model.now) self.now 0 queue.old places.old }
@@ -92,7 +100,7 @@ impl<'a, K: CostModel> Search<'a, K> {
     fn settle_least(
         &self,
         queue: &mut Queue<Entry<K::Cost>>,
-        places: &mut [u8; 64],
+        places: &mut [Option<u8>; 64],
         least: Least<Entry<K::Cost>>,
     )
         requires stage { Stage (K.CostModel.costs self.now.model.now) self.now 0 queue.old (places_after (K.CostModel.costs self.now.model.now) queue.old least places.old) }
@@ -102,13 +110,13 @@ impl<'a, K: CostModel> Search<'a, K> {
         ensures keeps { Keeps queue.old queue.new }
     {
         let moved = queue.held()[least.place].station;
-        places[usize::from(moved)] = least.place as u8;
-        places[usize::from(least.entry.station)] = (queue.gone() - 1) as u8;
+        places[usize::from(moved)] = Some(least.place as u8);
+        places[usize::from(least.entry.station)] = Some((queue.gone() - 1) as u8);
         self.relax_arrivals(queue, places, least.entry);
     }
 
     // Takes the stations out of the queue in rising cost, until nothing waits.
-    pub(crate) fn settle(&self, queue: &mut Queue<Entry<K::Cost>>, places: &mut [u8; 64])
+    pub(crate) fn settle(&self, queue: &mut Queue<Entry<K::Cost>>, places: &mut [Option<u8>; 64])
         requires { Stage (K.CostModel.costs self.now.model.now) self.now (network_of self.now).legs queue.old places.old }
         ensures settled { Settled (K.CostModel.costs self.now.model.now) (network_of self.now) (barred_in self.now) self.now.goal (held queue.new) places.new }
         ensures same_row { SameRow queue.old queue.new }
