@@ -1,7 +1,7 @@
 -- Phase 1 in its queue: what one leg does, and what coming out does.
 use Rattle.std.proofs.Common.{◌≡◌, ℕ, suc, ◌+◌, ◌-◌, ◌<◌, ◌≤◌, Bool, true, false, cond, ltb, leb, ◌⊎◌, List, [], ◌∷◌, ◌++◌, length, get_or, set, Some, None, Option, sym, refl, ap, ◌∙◌, subst, arith}
 use Rattle.network.specs.declared.leg.Leg.{Leg}
-use Rattle.network.specs.Meaning.{Meaning, Sound}
+use Rattle.network.specs.Meaning.{Sound}
 use Rattle.cost.specs.Costs.{Costs, Laws}
 use Rattle.queue.specs.declared.least.Least.{Least}
 use Rattle.queue.specs.declared.queue.Queue.{Queue}
@@ -11,11 +11,13 @@ use Rattle.route.specs.Certificate.{Usable}
 use Rattle.search_types.specs.declared.entry.Entry.{Entry}
 use Rattle.search.specs.declared.search.Search.{Search}
 use Rattle.search_types.specs.Entries.{sooner}
-use Rattle.search.specs.Stages.{network_of, barred_in, Stage, Last, due, Arriving, left, Relaxing, places_after}
+use Rattle.search.specs.Stages.{network_of, barred_in, Stage, Last, Relaxing, places_after}
 use Rattle.search.specs.Tables.{blank, place, cost_of, Swap, Settles, Settled}
 use Rattle.search.proofs.Tables.{placed_room}
 use Rattle.search.proofs.Places.{settles_end, settles_pop, settles_skip, settles_pass, settles_over, settles_insert, settles_replace}
-use Rattle.snapshot.specs.Meanings.{Arrives, FirstFrom, NextFrom, NextArrival}
+use Rattle.snapshot.specs.Meanings.{Arrives}
+use Rattle.snapshot.specs.Steps.{Awaits, Stepped}
+use Rattle.snapshot.specs.declared.iter.ArrivalsAt.{ArrivalsAt}
 use Rattle.snapshot.specs.Sounds.{snapshot_sound}
 use Rattle.std.proofs.ByRecursion.{All-get_or}
 use Rattle.std.proofs.lemmas.List.{get_or-take, get_or-drop, get_or_push}
@@ -100,27 +102,6 @@ cond_first : (t x : Bool) → cond t true x ≡ false → t ≡ false
 cond_first true x e = e
 cond_first false x e = refl
 
--- the next arrival, where the leg arrives at u
-next_at : (m : Meaning) (u e : ℕ) (x : Option Leg) (o : Option ℕ) → Arrives x u → NextFrom m e x o → FirstFrom m u (suc e) o
-next_at m u e None o a n = absurd a
-next_at m u e (Some l) o a n = subst (λ v. FirstFrom m v (suc e) o) a n
-
-pub next_first : (m : Meaning) (u e : ℕ) (o : Option ℕ) → Arrives (m.at e) u → NextArrival m e o → FirstFrom m u (suc e) o
-next_first m u e o a n = next_at m u e (m.at e) o a n
-
-pub first_arriving : (m : Meaning) (u i : ℕ) (o : Option ℕ) → FirstFrom m u i o → Arriving m u o
-first_arriving m u i None f = tt
-first_arriving m u i (Some e) f = (f.small, f.arrives)
-
-pub first_left : (m : Meaning) (u e : ℕ) (o : Option ℕ) → e < 512 → FirstFrom m u (suc e) o → left o < 512 - e
-first_left m u e None h f = omega (arith, h)
-first_left m u e (Some e') h f = omega (arith, f.from, h, f.small)
-
--- no leg before the one that is due arrives
-pub none_before : (m : Meaning) (u i : ℕ) (o : Option ℕ) → FirstFrom m u i o → (e : ℕ) (l : Leg) → m.at e ≡ Some l → l.to ≡ u → i ≤ e → e < due m o → ⊥
-none_before m u i None f e l at to h h' = f e h (subst (λ x. Arrives x u) (sym at) to)
-none_before m u i (Some e') f e l at to h h' = f.lowest e h h' (subst (λ x. Arrives x u) (sym at) to)
-
 module _ {K C : Type 0} (k : Costs C) (laws : Laws k) (s : Search K) (q : Queue (Entry C)) (places : List (Option ℕ)) where
   pub last_kept : (q' : Queue (Entry C)) (last : Entry C) → Last k q last → Keeps q q' → Last k q' last
   last_kept q' last is keeps = record {
@@ -128,16 +109,24 @@ module _ {K C : Type 0} (k : Costs C) (laws : Laws k) (s : Search K) (q : Queue 
     is = ap (λ n. get_or (taken q') (n - 1) (blank k)) keeps.gone_is ∙ ap (λ xs. get_or xs (gone q - 1) (blank k)) keeps.taken_is ∙ is.is;
   }
 
-  pub relaxing : (i : ℕ) (last : Entry C) (o : Option ℕ) → Stage k s i q places → Last k q last → FirstFrom (network_of s) last.station i o → Relaxing k s last o q places
-  relaxing i last o stage is f = record {
-    stage = record {
-      settles = settles_skip k laws (network_of s) (snapshot_sound s.network.now) (barred_in s) s.goal (gone q) i (held q) places stage.settles is.some last.station (ap (λ e. e.station) (last_held k q last is)) (due (network_of s) o)
-          (none_before (network_of s) last.station i o f);
-      roomy = stage.roomy;
-    };
-    last_is = is;
-    arriving = first_arriving (network_of s) last.station i o f;
+  -- no leg with a number from i up to e arrives there
+  skip : (i e : ℕ) (last : Entry C) → Stage k s i q places → Last k q last → ((f : ℕ) → i ≤ f → f < e → Arrives ((network_of s).at f) last.station → ⊥) → Stage k s e q places
+  skip i e last stage is none = record {
+    settles = settles_skip k laws (network_of s) (snapshot_sound s.network.now) (barred_in s) s.goal (gone q) i (held q) places stage.settles is.some last.station (ap (λ e. e.station) (last_held k q last is)) e
+        (λ f l at to h h'. none f h h' (subst (λ o. Arrives o last.station) (sym at) to));
+    roomy = stage.roomy;
   }
+
+  module _ (i : ℕ) (w w' : ArrivalsAt) (last : Entry C) (p : Relaxing k s last i w q places) where
+    -- at the next arrival, all legs before it were looked at
+    pub relaxing_next : (e : ℕ) → Stepped w (Some e) w' → Stage k s e q places × Arrives ((network_of s).at e) last.station × Awaits w' (network_of s) last.station (suc e)
+    relaxing_next e step =
+        let (here, more) = step (network_of s) last.station i p.awaits in
+        (skip i e last p.stage p.last_is here.lowest, here.arrives, more)
+
+    -- at the end, all were
+    pub relaxing_end : Stepped w None w' → Stage k s (network_of s).legs q places
+    relaxing_end step = skip i (network_of s).legs last p.stage p.last_is (λ f h _. step.1 (network_of s) last.station i p.awaits f h)
 
   -- nothing waits
   pub stage_end : Stage k s (network_of s).legs q places → waiting q ≡ [] → Settled k (network_of s) (barred_in s) s.goal (held q) places

@@ -1,12 +1,12 @@
 -- A search under way in a queue and its tables.
-use Rattle.std.specs.Prelude.{◌≡◌, ℕ, ◌-◌, ◌<◌, ◌≤◌, List, Some, None, Option, slice_index_or, slice_set}
+use Rattle.std.specs.Prelude.{◌≡◌, ℕ, ◌-◌, ◌<◌, ◌≤◌, List, Some, Option, slice_index_or, slice_set}
 use Rattle.network.specs.Meaning.{Meaning}
 use Rattle.cost.specs.Costs.{Costs}
 use Rattle.queue.specs.declared.least.Least.{Least}
 use Rattle.queue.specs.declared.queue.Queue.{Queue}
 use Rattle.queue.specs.Waiting.{taken, held, gone, room}
 use Rattle.route.specs.Routes as routes
-use Rattle.snapshot.specs.Meanings.{meaning_of, Arrives}
+use Rattle.snapshot.specs.Meanings.{meaning_of}
 use Rattle.snapshot.specs.Steps.{Awaits}
 use Rattle.snapshot.specs.declared.iter.ArrivalsAt.{ArrivalsAt}
 use Rattle.search_types.specs.declared.entry.Entry.{Entry}
@@ -33,25 +33,12 @@ pub record Last {C : Type 0} (k : Costs C) (q : Queue (Entry C)) (last : Entry C
   pub some : 0 < gone q
   pub is : slice_index_or (taken q) (gone q - 1) (blank k) ≡ last
 
--- the leg number that is due, where the arrivals at a station are looked at one by one; past the last, the count of legs
-abbrev pub due : Meaning → Option ℕ → ℕ
-due m None = m.legs
-due m (Some e) = e
-
-abbrev pub Arriving : Meaning → ℕ → Option ℕ → Type 0
-Arriving m u None = Unit {0}
-Arriving m u (Some e) = (e < 512) × Arrives (m.at e) u
-
--- how many leg numbers are left at most
-abbrev pub left : Option ℕ → ℕ
-left None = 0
-left (Some e) = 512 - e
-
--- phase 1 while the arrivals at the station that came out last are looked at
-pub record Relaxing {K C : Type 0} (k : Costs C) (s : Search K) (last : Entry C) (arrival : Option ℕ) (q : Queue (Entry C)) (places : List (Option ℕ)) : Type 0 where
-  pub stage : Stage k s (due (network_of s) arrival) q places
+-- phase 1 while the arrivals at the station that came out last are looked at: those below i were, and the walk has the
+-- others
+pub record Relaxing {K C : Type 0} (k : Costs C) (s : Search K) (last : Entry C) (i : ℕ) (walk : ArrivalsAt) (q : Queue (Entry C)) (places : List (Option ℕ)) : Type 0 where
+  pub stage : Stage k s i q places
   pub last_is : Last k q last
-  pub arriving : Arriving (network_of s) last.station arrival
+  pub awaits : Awaits walk (network_of s) last.station i
 
 -- the places once a waiting entry has come out: it stands at the end of those that have, and the entry that stood there
 -- went to its place

@@ -76,6 +76,7 @@ impl<'a, K: CostModel> Search<'a, K> {
             }
         }
     }
+
     // Every leg into the station that came out last.
     fn relax_arrivals(
         &self,
@@ -88,10 +89,8 @@ impl<'a, K: CostModel> Search<'a, K> {
         ensures stage { Stage (K.CostModel.costs self.now.model.now) self.now (network_of self.now).legs queue.new places.new }
         ensures keeps { Keeps queue.old queue.new }
     {
-        let mut arrival = self.network.first_arrival(last.station);
-        while let Some(number) = arrival {
+        for number in self.network.arrivals(last.station) {
             self.relax_leg(queue, places, last, number);
-            arrival = self.network.next_arrival(number);
         }
     }
 
