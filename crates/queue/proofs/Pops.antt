@@ -3,28 +3,14 @@ use Rattle.std.proofs.Common.{◌≡◌, ℕ, ◌+◌, ◌-◌, ◌<◌, ◌≤�
 use lib.Seq.{take-set-lt}
 use Rattle.std.specs.List.{IsFirstBest, swap, AllByRecursion}
 use Rattle.std.specs.List.Sorted.{IsPermutation}
-use Rattle.std.specs.Cmp.{IsStrictWeakOrder}
 use Rattle.std.proofs.lemmas.List.Edits.{swap_is}
 use Rattle.std.proofs.ByRecursion.{All-from_get_or}
 use Rattle.std.proofs.lemmas.List.{length-set, length-drop, get_or-take, get_or-drop, get_or-set_same, get_or-set_other, take_more, take-set-le, drop_more, drop-set-add}
 use Rattle.std.proofs.lemmas.List.Sorted.{IsPermutation-swap}
-use Rattle.std.proofs.lemmas.Bool.{cases_Bool, cases_eq, both_ways}
-use Rattle.queue.specs.Order.{Strict}
-use Rattle.queue.specs.Waiting.{whole, waiting, held, gone, Moved, Comes}
-use Rattle.queue.specs.declared.least.Least.{Least}
+use Rattle.std.proofs.lemmas.Bool.{cases_eq}
+use Rattle.queue.specs.Waiting.{whole, waiting, held, gone, SameRow, Moved, Comes}
 use Rattle.queue.specs.declared.queue.Queue.{Queue}
-use Rattle.queue.proofs.Rows.{held_length, waiting_length, waiting_at}
-
-module _ {E : Type 0} (less : E → E → Bool) (o : Strict less) where
-  not_chain : (x y z : E) → less x y ≡ false → less y z ≡ false → less x z ≡ false
-  not_chain x y z p q =
-      ⊎_elim
-      (λ xz. ⊎_elim (λ yx. absurd (both_ways (less y z) q (o.chain y x z yx xz))) (λ yx. subst (λ w. less w z ≡ false) (sym (o.apart x y p yx)) q) (cases_Bool (less y x)))
-      (λ xz. xz)
-      (cases_Bool (less x z))
-
-  pub ranks : IsStrictWeakOrder less
-  ranks = record { one_way = o.one_way; chain = not_chain }
+use Rattle.queue.proofs.Rows.{held_length, waiting_at}
 
 -- x goes to `out` and y to `p`, in a list that has them the other way round
 module _ {E : Type 0} (xs : List E) (out p : ℕ) (low : out ≤ p) (high : p < length xs) (x y : E) (xr : (d : E) → x ≡ get_or xs p d) (yr : (d : E) → y ≡ get_or xs out d) where
@@ -85,7 +71,7 @@ module _ {E : Type 0} (less : E → E → Bool) (xs : List E) (b : ℕ) (x : E) 
 
 module _ {E : Type 0} (q next : Queue E) (p : ℕ) (low : gone q ≤ p) (high : p < q.end) (x y : E)
     (xr : (d : E) → x ≡ get_or (whole q) p d) (yr : (d : E) → y ≡ get_or (whole q) (gone q) d)
-    (row : whole next ≡ set (set (whole q) (gone q) x) p y) (out : gone next ≡ gone q + 1) (end : next.end ≡ q.end) where
+    (row : whole next ≡ set (set (whole q) (gone q) x) p y) (out : gone next ≡ gone q + 1) (end : next.end ≡ q.end) (same : SameRow q next) where
   in_held : p < length (held q)
   in_held = omega (arith, held_length q)
 
@@ -119,7 +105,7 @@ module _ {E : Type 0} (q next : Queue E) (p : ℕ) (low : gone q ≤ p) (high : 
     at_place = λ d. ap (λ l. get_or l p d) held_next ∙ at_place (held q) (gone q) p low in_held x y xh yh d;
     elsewhere = λ i d m n. ap (λ l. get_or l i d) held_next ∙ elsewhere (held q) (gone q) p low in_held x y xh yh i d m n;
     held_length = ap length held_next ∙ after_length (held q) (gone q) p low in_held x y xh yh;
-    room_is = ap length row ∙ after_length (whole q) (gone q) p low in_whole x y xr yr;
+    same_row = same;
   }
 
   -- the entry as one of those that wait
@@ -136,10 +122,3 @@ module _ {E : Type 0} (q next : Queue E) (p : ℕ) (low : gone q ≤ p) (high : 
     first = best;
     moved = moved;
   }
-
--- the same place by place: no entry that waits comes before the one that comes
-pub none_sooner : {E : Type 0} (less : E → E → Bool) (q next : Queue E) (l : Least E) → Comes less q next l → (i : ℕ) (d : E) → gone q ≤ i → i < length (held q) → less (get_or (held q) i d) l.entry ≡ false
-none_sooner less q next l c i d low high =
-    let m = c.moved in
-    let is : get_or (waiting q) (l.place - gone q) d ≡ l.entry = waiting_at q l.place d m.low ∙ sym (m.entry d) in
-    sym (λ k. less (waiting_at q i d low k) (is k)) ∙ c.first.1 (i - gone q) d (omega (arith, waiting_length q))

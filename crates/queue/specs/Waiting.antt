@@ -34,6 +34,17 @@ has_room q = nat_lt (length (held q)) (room q)
 abbrev pub waits_at : {E : Type 0} → Queue E → ℕ → Bool
 waits_at q p = nat_le (gone q) p && nat_lt p (length (held q))
 
+-- a queue over the same row: it is lent by the same name, and holds as many entries
+pub record SameRow {E : Type 0} (q after : Queue E) : Type 0 where
+  pub lent : after.row.ghost_name ≡ q.row.ghost_name
+  pub room_is : room after ≡ room q
+
+-- the same row, and nothing came out of it
+pub record Keeps {E : Type 0} (q after : Queue E) : Type 0 where
+  pub same_row : SameRow q after
+  pub taken_is : taken after ≡ taken q
+  pub gone_is : gone after ≡ gone q
+
 -- e taken from the entries xs, which leaves ys: none of xs comes before it
 pub record Taken {E : Type 0} (less : E → E → Bool) (xs ys : List E) (e : E) : Type 0 where
   pub shuffled : IsPermutation xs (e ∷ ys)
@@ -54,7 +65,7 @@ pub record Moved {E : Type 0} (q after : Queue E) (l : Least E) : Type 0 where
   pub at_place : (d : E) → slice_index_or (held after) l.place d ≡ slice_index_or (held q) (gone q) d
   pub elsewhere : (i : ℕ) (d : E) → (i ≢ gone q) → (i ≢ l.place) → slice_index_or (held after) i d ≡ slice_index_or (held q) i d
   pub held_length : length (held after) ≡ length (held q)
-  pub room_is : room after ≡ room q
+  pub same_row : SameRow q after
 
 -- what a pop does where something waits
 pub record Comes {E : Type 0} (less : E → E → Bool) (q after : Queue E) (l : Least E) : Type 0 where
@@ -66,12 +77,10 @@ pub record Comes {E : Type 0} (less : E → E → Bool) (q after : Queue E) (l :
 -- what it does where nothing waits
 pub record Still {E : Type 0} (q after : Queue E) : Type 0 where
   pub empty : waiting q ≡ []
-  pub gone_is : gone after ≡ gone q
+  pub keeps : Keeps q after
   pub whole_is : whole after ≡ whole q
   pub held_is : held after ≡ held q
-  pub taken_is : taken after ≡ taken q
   pub waiting_is : waiting after ≡ waiting q
-  pub room_is : room after ≡ room q
 
 -- what a pop does, by what comes
 abbrev pub Popping : {E : Type 0} → (E → E → Bool) → Queue E → Queue E → Option (Least E) → Type 0

@@ -1,7 +1,7 @@
 // Entries go into a queue, are replaced in it, and come out.
 ghost use Rattle.std.specs.Prelude.{◌≡◌, ◌-◌, ◌<◌, ◌≤◌, [], ◌∷◌, ◌++◌, length, if◌then◌else◌, ◌≢◌, slice_set};
 ghost use Rattle.std.specs.List.{IsFirstBest};
-ghost use Rattle.queue.specs.Waiting.{whole, taken, waiting, held, room, gone, has_room, waits_at, Comes, Popping};
+ghost use Rattle.queue.specs.Waiting.{whole, waiting, held, gone, has_room, waits_at, Keeps, Comes, Popping};
 
 use crate::least::Least;
 use crate::order::Order;
@@ -13,8 +13,8 @@ fn least_place<O: Order>(order: &O, entries: &[O::Entry]) -> usize
     ensures { IsFirstBest (O.Order.less order.now) entries.now (length entries.now) result }
 {
     let mut best = 0;
-    for i in 1..entries.len() {
-        if order.comes_before(entries[i], entries[best]) {
+    for (i, entry) in entries.iter().enumerate() {
+        if order.comes_before(*entry, entries[best]) {
             best = i;
         }
     }
@@ -22,45 +22,35 @@ fn least_place<O: Order>(order: &O, entries: &[O::Entry]) -> usize
 }
 
 impl<'a, E: Copy> Queue<'a, E> {
-    // One more entry waits, unless the row is full.
+    /// One more entry waits, unless the row is full.
     pub fn insert(&mut self, entry: E) -> bool
-        ensures lent { self.new.row.ghost_name ≡ self.old.row.ghost_name }
+        ensures keeps { Keeps self.old self.new }
         ensures answer { result ≡ has_room self.old }
         ensures held { held self.new ≡ (if has_room self.old then held self.old ++ entry ∷ [] else held self.old) }
         ensures waiting { waiting self.new ≡ (if has_room self.old then waiting self.old ++ entry ∷ [] else waiting self.old) }
-        ensures taken { taken self.new ≡ taken self.old }
         ensures whole { whole self.new ≡ (if has_room self.old then slice_set (whole self.old) (length (held self.old)) entry else whole self.old) }
-        ensures gone { gone self.new ≡ gone self.old }
-        ensures room { room self.new ≡ room self.old }
     {
-        let end = self.end;
-        if end < self.row.len() {
-            self.row[end] = entry;
-            self.end = end + 1;
-            return true;
+        let has_room = self.end < self.row.len();
+        if has_room {
+            self.row[self.end] = entry;
+            self.end += 1;
         }
-        false
+        has_room
     }
 
-    // Another entry waits at a place of the row, if one waits there.
+    /// Another entry waits at a place of the row, if one waits there.
     pub fn replace(&mut self, place: usize, entry: E) -> bool
-        ensures lent { self.new.row.ghost_name ≡ self.old.row.ghost_name }
+        ensures keeps { Keeps self.old self.new }
         ensures answer { result ≡ waits_at self.old place }
         ensures held { held self.new ≡ (if waits_at self.old place then slice_set (held self.old) place entry else held self.old) }
         ensures waiting { waiting self.new ≡ (if waits_at self.old place then slice_set (waiting self.old) (place - gone self.old) entry else waiting self.old) }
-        ensures taken { taken self.new ≡ taken self.old }
         ensures whole { whole self.new ≡ (if waits_at self.old place then slice_set (whole self.old) place entry else whole self.old) }
-        ensures gone { gone self.new ≡ gone self.old }
-        ensures room { room self.new ≡ room self.old }
     {
-        if place < self.out {
-            return false;
+        let waits = (self.out..self.end).contains(&place);
+        if waits {
+            self.row[place] = entry;
         }
-        if self.end <= place {
-            return false;
-        }
-        self.row[place] = entry;
-        true
+        waits
     }
 
     // The place in the row of the first entry that waits and that none comes before.
@@ -76,23 +66,18 @@ impl<'a, E: Copy> Queue<'a, E> {
     // Brings the least of the entries that wait to the end of those that came out.
     fn take_least<O: Order<Entry = E>>(&mut self, order: &O) -> Least<E>
         requires { waiting self.old ≢ [] }
-        ensures lent { self.new.row.ghost_name ≡ self.old.row.ghost_name }
-        ensures comes { Comes (O.Order.less order.now) self.old self.new result }
+        ensures { Comes (O.Order.less order.now) self.old self.new result }
     {
         let place = self.place_of_least(order);
-        let out = self.out;
         let entry = self.row[place];
-        let first = self.row[out];
-        self.row[out] = entry;
-        self.row[place] = first;
-        self.out = out + 1;
+        self.row.swap(self.out, place);
+        self.out += 1;
         Least { entry, place }
     }
 
-    // The least of the entries that wait comes out. The one that was first of them stands at its place then.
+    /// The least of the entries that wait comes out. The one that was first of them stands at its place then.
     pub fn pop_least<O: Order<Entry = E>>(&mut self, order: &O) -> Option<Least<E>>
-        ensures lent { self.new.row.ghost_name ≡ self.old.row.ghost_name }
-        ensures popped { Popping (O.Order.less order.now) self.old self.new result }
+        ensures { Popping (O.Order.less order.now) self.old self.new result }
     {
         if self.is_empty() {
             return None;

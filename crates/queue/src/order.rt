@@ -2,7 +2,7 @@
 ghost use Rattle.std.specs.Prelude.{◌≡◌, Bool};
 ghost use Rattle.queue.specs.Order.{Strict};
 
-// A strict total order, which may depend on the value that is asked.
+/// A strict total order, which may depend on the value that is asked.
 pub trait Order {
     type Entry: Copy;
 

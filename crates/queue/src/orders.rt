@@ -6,7 +6,7 @@ ghost use Rattle.queue.specs.Pairs.{pair_less, pairs_strict};
 use crate::order::Order;
 use crate::pair::Pair;
 
-// Smaller numbers come first.
+/// Smaller numbers come first.
 #[derive(Clone, Copy)]
 pub struct Numbers;
 
@@ -22,7 +22,7 @@ impl Order for Numbers {
     }
 }
 
-// Pairs come by what is first in them, and then by what is second.
+/// Pairs come by what is first in them, and then by what is second.
 #[derive(Clone, Copy)]
 pub struct Pairs;
 
@@ -34,12 +34,6 @@ impl Order for Pairs {
     ghost strict = { λ _. pairs_strict };
 
     fn comes_before(&self, a: Pair, b: Pair) -> bool {
-        if a.first < b.first {
-            return true;
-        }
-        if b.first < a.first {
-            return false;
-        }
-        a.second < b.second
+        a < b
     }
 }

@@ -4,23 +4,8 @@ ghost use Rattle.queue.specs.Waiting.{whole, taken, waiting, held, room, gone};
 
 use crate::queue::Queue;
 
-// All entries but the first so many.
-fn behind<E>(entries: &[E], count: usize) -> &[E]
-    requires { count ≤ length entries.now }
-    ensures { result.now ≡ drop count entries.now }
-{
-    &entries[count..]
-}
-
-// Whether there are no entries.
-fn none<E>(entries: &[E]) -> bool
-    ensures { Decides result (entries.now ≡ []) }
-{
-    entries.is_empty()
-}
-
 impl<'a, E: Copy> Queue<'a, E> {
-    // Nothing waits yet, and nothing came out.
+    /// Nothing waits yet, and nothing came out.
     pub fn over(row: &'a mut [E]) -> Queue<'a, E>
         ensures lent { result.row.ghost_name ≡ row.entry.ghost_name }
         ensures whole { whole result ≡ row.old }
@@ -35,38 +20,38 @@ impl<'a, E: Copy> Queue<'a, E> {
         }
     }
 
-    // How many entries came out.
+    /// How many entries came out.
     pub fn gone(&self) -> usize
         ensures { result ≡ gone self.now }
     {
         self.out
     }
 
-    // The entries that came out, in the order in which they did.
+    /// The entries that came out, in the order in which they did.
     pub fn taken(&self) -> &[E]
         ensures { result.now ≡ taken self.now }
     {
-        &self.row[0..self.out]
+        &self.row[..self.out]
     }
 
-    // Whether nothing waits.
+    /// Whether nothing waits.
     pub fn is_empty(&self) -> bool
         ensures { Decides result (waiting self.now ≡ []) }
     {
-        none(self.waiting())
+        self.waiting().is_empty()
     }
 
-    // The entries that wait.
+    /// The entries that wait.
     pub fn waiting(&self) -> &[E]
         ensures { result.now ≡ waiting self.now }
     {
-        behind(self.held(), self.out)
+        &self.row[self.out..self.end]
     }
 
-    // The entries that came out, and behind them those that wait.
+    /// The entries that came out, and behind them those that wait.
     pub fn held(&self) -> &[E]
         ensures { result.now ≡ held self.now }
     {
-        &self.row[0..self.end]
+        &self.row[..self.end]
     }
 }

@@ -1,5 +1,5 @@
 -- The steps of phase 1, in the tables.
-use Rattle.std.proofs.Common.{◌≡◌, ℕ, zero, suc, ◌+◌, ◌-◌, ◌<◌, ◌≤◌, true, false, ◌⊎◌, List, [], ◌∷◌, ◌++◌, length, get_or, set, replicate, Some, sym, refl, ap, ◌∙◌, subst, arith}
+use Rattle.std.proofs.Common.{◌≡◌, ℕ, zero, suc, ◌+◌, ◌-◌, ◌<◌, ◌≤◌, true, false, ◌⊎◌, List, [], ◌∷◌, ◌++◌, length, get_or, set, replicate, Some, None, Option, sym, refl, ap, ◌∙◌, subst, arith}
 use Rattle.network.specs.declared.leg.Leg.{Leg}
 use Rattle.network.specs.Meaning.{Meaning, Sound}
 use Rattle.cost.specs.Costs.{Costs, Laws}
@@ -8,37 +8,55 @@ use Rattle.route.specs.Certificate.{Usable, Settling}
 use Rattle.route.specs.Progress.{Put, SettlingTo}
 use Rattle.route.proofs.Settle.{either, same_leg, settle_none, settle_more, settle_all, relax_none, relax_skip, relax_more, place_stands}
 use Rattle.search_types.specs.declared.entry.Entry.{Entry}
+use Rattle.std.specs.Prelude.{unwrap_or}
 use Rattle.search.specs.Tables.{blank, place, seen, turn, cost_of, Swap, Settles, Settled}
-use Rattle.search.proofs.Tables.{turn_out, turn_open, seen_placed, placed_seen, placed_most, placed_room, placed_insert, seen_insert, cost_insert, turn_insert, placed_replace, cost_replace, placed_pop, seen_pop, cost_pop, turn_pop}
-use Rattle.std.proofs.lemmas.List.{length-set, length_push, length-replicate, get_or-replicate, get_or_past, get_or_default, get_or-set_same, get_or-set_other}
+use Rattle.search.proofs.Tables.{place_put, small_put, turn_out, turn_open, seen_placed, placed_seen, placed_most, placed_room, placed_insert, seen_insert, cost_insert, turn_insert, placed_replace, cost_replace, placed_pop, seen_pop, cost_pop, turn_pop}
+use Rattle.std.proofs.lemmas.List.{length-set, length_push, length-replicate, get_or-replicate, get_or_past}
 use Rattle.std.proofs.lemmas.Bool.{cases_eq, cases_lt}
 
--- no station has a place
-pub far : (v : ℕ) → place (replicate 64 64) v ≡ 64
+-- 64 at every place
+pub far : (v : ℕ) → ◌≡◌ {A = ℕ} (get_or (replicate 64 64) v 64) 64
 far v = either (cases_lt v 64) (λ h. get_or-replicate 64 v 64 64 h) (λ h. get_or_past (replicate 64 64) v 64 (subst (λ y. y ≤ v) (sym (length-replicate {A = ℕ} 64 64)) h))
 
+-- no station has a place
+none_at : (v : ℕ) → get_or {A = Option ℕ} (replicate 64 None) v None ≡ None
+none_at v = either (cases_lt v 64) (λ h. get_or-replicate 64 v None None h) (λ h. get_or_past (replicate 64 None) v None (subst (λ y. y ≤ v) (sym (length-replicate {A = Option ℕ} 64 None)) h))
+
+nowhere : (v : ℕ) → place (replicate 64 None) v ≡ 64
+nowhere v = ap (λ o. unwrap_or o 64) (none_at v)
+
+no_place : (y p : ℕ) → get_or (replicate 64 None) y None ≡ Some p → p ≤ 63
+no_place y p e = absurd (never (sym (none_at y) ∙ e))
+  where
+    never : None ≡ Some p → ⊥
+    never h = cc
+
 -- only the goal waits
-pub settles_start : {C : Type 0} (k : Costs C) (m : Meaning) (b : Bars) (goal i : ℕ) → Sound m → goal < m.stations → (z : C) → z ≡ k.zero → Settles k m b goal 0 i (record { cost = z; station = goal } ∷ []) (set (replicate 64 64) goal 0)
+pub settles_start : {C : Type 0} (k : Costs C) (m : Meaning) (b : Bars) (goal i : ℕ) → Sound m → goal < m.stations → (z : C) → z ≡ k.zero → Settles k m b goal 0 i (record { cost = z; station = goal } ∷ []) (set (replicate 64 None) goal (Some 0))
 settles_start k m b goal i sound h z ez = record {
   placed = record {
-    long = length-set (replicate 64 64) goal 0 ∙ length-replicate {A = ℕ} 64 64;
+    long = length-set (replicate 64 None) goal (Some 0) ∙ length-replicate {A = Option ℕ} 64 None;
+    small = small_put (replicate 64 None) goal 0 inside (omega arith) no_place;
     here = first;
-    there = λ v near. let e : v ≡ goal = only v near in let at : place (set (replicate 64 64) goal 0) v ≡ 0 = ap (place (set (replicate 64 64) goal 0)) e ∙ home in
+    there = λ v near. let e : v ≡ goal = only v near in let at : place (set (replicate 64 None) goal (Some 0)) v ≡ 0 = ap (place (set (replicate 64 None) goal (Some 0))) e ∙ home in
         (omega (arith, at), ap (λ q. (get_or (record { cost = z; station = goal } ∷ []) q (blank k)).station) at ∙ sym e);
     fits = below;
   };
   within = omega arith;
-  settling = settle_none k m b goal i (seen (set (replicate 64 64) goal 0)) (turn (set (replicate 64 64) goal 0) 0) (cost_of k (record { cost = z; station = goal } ∷ []) (set (replicate 64 64) goal 0))
-      (λ v. omega (arith, turn_open (set (replicate 64 64) goal 0) 0 v (omega arith)))
-      (placed_seen (set (replicate 64 64) goal 0) goal (omega (arith, home)))
-      (λ v s. only v (seen_placed (set (replicate 64 64) goal 0) v s))
+  settling = settle_none k m b goal i (seen (set (replicate 64 None) goal (Some 0))) (turn (set (replicate 64 None) goal (Some 0)) 0) (cost_of k (record { cost = z; station = goal } ∷ []) (set (replicate 64 None) goal (Some 0)))
+      (λ v. omega (arith, turn_open (set (replicate 64 None) goal (Some 0)) 0 v (omega arith)))
+      (placed_seen (set (replicate 64 None) goal (Some 0)) goal (omega (arith, home)))
+      (λ v s. only v (seen_placed (set (replicate 64 None) goal (Some 0)) v s))
       (ap (λ q. (get_or (record { cost = z; station = goal } ∷ []) q (blank k)).cost) home ∙ ez);
 }
   where
-    home : place (set (replicate 64 64) goal 0) goal ≡ 0
-    home = get_or-set_same (replicate 64 64) goal 0 64 (subst (λ n. goal < n) (sym (length-replicate {A = ℕ} 64 64)) (omega (arith, h, sound.stations_high)))
+    inside : goal < length {A = Option ℕ} (replicate 64 None)
+    inside = subst (λ n. goal < n) (sym (length-replicate {A = Option ℕ} 64 None)) (omega (arith, h, sound.stations_high))
 
-    first : (j : ℕ) → j < 1 → place (set (replicate 64 64) goal 0) (get_or (record { cost = z; station = goal } ∷ []) j (blank k)).station ≡ j
+    home : place (set (replicate 64 None) goal (Some 0)) goal ≡ 0
+    home = (place_put (replicate 64 None) goal 0 inside).here
+
+    first : (j : ℕ) → j < 1 → place (set (replicate 64 None) goal (Some 0)) (get_or (record { cost = z; station = goal } ∷ []) j (blank k)).station ≡ j
     first zero h' = home
     first (suc j) h' = absurd (omega arith)
 
@@ -46,15 +64,12 @@ settles_start k m b goal i sound h z ez = record {
     below zero h' = h
     below (suc j) h' = absurd (omega arith)
 
-    only : (v : ℕ) → place (set (replicate 64 64) goal 0) v ≤ 63 → v ≡ goal
-    only v near = either (cases_eq v goal) (λ e. e) (λ ne. absurd (omega (arith, get_or-set_other {A = ℕ} (replicate 64 64) goal v 0 64 ne, far v)))
+    only : (v : ℕ) → place (set (replicate 64 None) goal (Some 0)) v ≤ 63 → v ≡ goal
+    only v near = either (cases_eq v goal) (λ e. e) (λ ne. absurd (omega (arith, (place_put (replicate 64 None) goal 0 inside).elsewhere v ne, nowhere v)))
 
-module _ {C : Type 0} (k : Costs C) (laws : Laws k) (m : Meaning) (sound : Sound m) (b : Bars) (goal out i : ℕ) (row : List (Entry C)) (places : List ℕ) (p : Settles k m b goal out i row places) where
+module _ {C : Type 0} (k : Costs C) (laws : Laws k) (m : Meaning) (sound : Sound m) (b : Bars) (goal out i : ℕ) (row : List (Entry C)) (places : List (Option ℕ)) (p : Settles k m b goal out i row places) where
   low : m.stations ≤ 64
   low = sound.stations_high
-
-  pub read_place : (v : ℕ) → v < 64 → get_or places v 0 ≡ place places v
-  read_place v h = get_or_default places v 0 64 (omega (arith, p.placed.long))
 
   -- nothing waits, and every leg into the station that came out last was looked at
   pub settles_end : out ≡ length row → i ≡ m.legs → Settled k m b goal row places
@@ -69,7 +84,7 @@ module _ {C : Type 0} (k : Costs C) (laws : Laws k) (m : Meaning) (sound : Sound
   }
 
   -- the least of the waiting entries comes out
-  module _ (at : ℕ) (row' : List (Entry C)) (swap : Swap (blank k) out at row row') (places' : List ℕ) (made : places' ≡ set (set places (get_or row out (blank k)).station at) (get_or row at (blank k)).station out) where
+  module _ (at : ℕ) (row' : List (Entry C)) (swap : Swap (blank k) out at row row') (places' : List (Option ℕ)) (made : places' ≡ set (set places (get_or row out (blank k)).station (Some at)) (get_or row at (blank k)).station (Some out)) where
     u : ℕ
     u = (get_or row at (blank k)).station
 
@@ -176,16 +191,16 @@ module _ {C : Type 0} (k : Costs C) (laws : Laws k) (m : Meaning) (sound : Sound
         gives : x ≡ k.join (k.of_leg l) (cost_of k row places l.to)
         gives = ex ∙ ap (k.join (k.of_leg l)) (sym to_cost)
 
-        pub settles_insert : 64 ≤ place places l.from → Settles k m b goal out (suc i) (row ++ record { cost = x; station = l.from } ∷ []) (set places l.from (length row))
+        pub settles_insert : 64 ≤ place places l.from → Settles k m b goal out (suc i) (row ++ record { cost = x; station = l.from } ∷ []) (set places l.from (Some (length row)))
         settles_insert ahead = record {
           placed = placed_insert k m.stations low row places p.placed (record { cost = x; station = l.from }) from_in ahead;
           within = omega (arith, p.within, length_push row (record { cost = x; station = l.from }));
-          settling = subst (λ t. SettlingTo k m b goal out (suc i) (seen (set places l.from (length row))) t (cost_of k (row ++ record { cost = x; station = l.from } ∷ []) (set places l.from (length row))))
+          settling = subst (λ t. SettlingTo k m b goal out (suc i) (seen (set places l.from (Some (length row)))) t (cost_of k (row ++ record { cost = x; station = l.from } ∷ []) (set places l.from (Some (length row)))))
               (λ t y. turn_insert k m.stations low row places p.placed (record { cost = x; station = l.from }) from_in ahead out p.within y t)
-              (relax_more k laws m sound b goal out i (seen places) (seen (set places l.from (length row))) (turn places out) (cost_of k row places) (cost_of k (row ++ record { cost = x; station = l.from } ∷ []) (set places l.from (length row))) l p.settling g to_turn
+              (relax_more k laws m sound b goal out i (seen places) (seen (set places l.from (Some (length row)))) (turn places out) (cost_of k row places) (cost_of k (row ++ record { cost = x; station = l.from } ∷ []) (set places l.from (Some (length row)))) l p.settling g to_turn
               (settles_left behind) (omega (arith, turn_open places out l.from behind)) (λ s. absurd (omega (arith, ahead, seen_placed places l.from s)))
               (seen_insert k m.stations low row places p.placed (record { cost = x; station = l.from }) from_in ahead)
-              (subst (λ c. Put (cost_of k row places) (cost_of k (row ++ record { cost = x; station = l.from } ∷ []) (set places l.from (length row))) l.from c) gives (cost_insert k m.stations low row places p.placed (record { cost = x; station = l.from }) from_in ahead)));
+              (subst (λ c. Put (cost_of k row places) (cost_of k (row ++ record { cost = x; station = l.from } ∷ []) (set places l.from (Some (length row)))) l.from c) gives (cost_insert k m.stations low row places p.placed (record { cost = x; station = l.from }) from_in ahead)));
         }
           where
             behind : out ≤ place places l.from

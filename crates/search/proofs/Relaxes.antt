@@ -1,21 +1,23 @@
 -- Phase 1 in its queue: what one leg does, and what coming out does.
 use Rattle.std.proofs.Common.{◌≡◌, ℕ, suc, ◌+◌, ◌-◌, ◌<◌, ◌≤◌, Bool, true, false, cond, ltb, leb, ◌⊎◌, List, [], ◌∷◌, ◌++◌, length, get_or, set, Some, None, Option, sym, refl, ap, ◌∙◌, subst, arith}
 use Rattle.network.specs.declared.leg.Leg.{Leg}
-use Rattle.network.specs.Meaning.{Meaning, Sound}
+use Rattle.network.specs.Meaning.{Sound}
 use Rattle.cost.specs.Costs.{Costs, Laws}
 use Rattle.queue.specs.declared.least.Least.{Least}
 use Rattle.queue.specs.declared.queue.Queue.{Queue}
-use Rattle.queue.specs.Waiting.{taken, waiting, held, gone, room, has_room, waits_at, Comes}
+use Rattle.queue.specs.Waiting.{taken, waiting, held, gone, room, has_room, waits_at, Keeps, Comes}
 use Rattle.queue.proofs.Rows.{taken_held, taken_length, gone_within, waiting_length}
 use Rattle.route.specs.Certificate.{Usable}
 use Rattle.search_types.specs.declared.entry.Entry.{Entry}
 use Rattle.search.specs.declared.search.Search.{Search}
 use Rattle.search_types.specs.Entries.{sooner}
-use Rattle.search.specs.Stages.{network_of, barred_in, Stage, Last, due, Arriving, left, Relaxing, places_after}
+use Rattle.search.specs.Stages.{network_of, barred_in, Stage, Last, Relaxing, places_after}
 use Rattle.search.specs.Tables.{blank, place, cost_of, Swap, Settles, Settled}
 use Rattle.search.proofs.Tables.{placed_room}
-use Rattle.search.proofs.Places.{read_place, settles_end, settles_pop, settles_skip, settles_pass, settles_over, settles_insert, settles_replace}
-use Rattle.snapshot.specs.Meanings.{Arrives, FirstFrom, NextFrom, NextArrival}
+use Rattle.search.proofs.Places.{settles_end, settles_pop, settles_skip, settles_pass, settles_over, settles_insert, settles_replace}
+use Rattle.snapshot.specs.Meanings.{Arrives}
+use Rattle.snapshot.specs.Steps.{Awaits, Stepped}
+use Rattle.snapshot.specs.declared.iter.ArrivalsAt.{ArrivalsAt}
 use Rattle.snapshot.specs.Sounds.{snapshot_sound}
 use Rattle.std.proofs.ByRecursion.{All-get_or}
 use Rattle.std.proofs.lemmas.List.{get_or-take, get_or-drop, get_or_push}
@@ -25,67 +27,72 @@ use Rattle.std.proofs.lemmas.Bool.{lt-ltb, le-leb, and_from, cond-true}
 pub last_held : {C : Type 0} (k : Costs C) (q : Queue (Entry C)) (last : Entry C) → Last k q last → get_or (held q) (gone q - 1) (blank k) ≡ last
 last_held k q last is = sym (get_or-take (gone q) (held q) (gone q - 1) (blank k) (omega (arith, is.some))) ∙ ap (λ xs. get_or xs (gone q - 1) (blank k)) (sym (taken_held q)) ∙ is.is
 
-module _ {K C : Type 0} (k : Costs C) (laws : Laws k) (s : Search K) (i : ℕ) (q : Queue (Entry C)) (places : List ℕ) (last : Entry C) (stage : Stage k s i q places) (is : Last k q last) (arrives : Arrives ((network_of s).at i) last.station) (l : Leg) (at : (network_of s).at i ≡ Some l) where
+-- a leg into the station that came out last
+pub record Arrived {K C : Type 0} (k : Costs C) (s : Search K) (i : ℕ) (q : Queue (Entry C)) (places : List (Option ℕ)) (last : Entry C) (l : Leg) : Type 0 where
+  pub laws : Laws k
+  pub stage : Stage k s i q places
+  pub last_is : Last k q last
+  pub arrives : Arrives ((network_of s).at i) last.station
+  pub at : (network_of s).at i ≡ Some l
+
+module _ {K C : Type 0} {k : Costs C} {s : Search K} {i : ℕ} {q : Queue (Entry C)} {places : List (Option ℕ)} {last : Entry C} {l : Leg} (a : Arrived k s i q places last l) where
   sound : Sound (network_of s)
   sound = snapshot_sound s.network.now
 
   the_last : get_or (held q) (gone q - 1) (blank k) ≡ last
-  the_last = last_held k q last is
+  the_last = last_held k q last a.last_is
 
   to : l.to ≡ last.station
-  to = subst (λ o. Arrives o last.station) at arrives
+  to = subst (λ o. Arrives o last.station) a.at a.arrives
 
   fits : l.from < (network_of s).stations
-  fits = (sound.fits i l at).from_fits
+  fits = (sound.fits i l a.at).from_fits
 
   pub from_below : l.from < 64
   from_below = omega (arith, fits, sound.stations_high)
 
-  -- the place that was read for the leg's start
-  module _ (f w : ℕ) (ef : f ≡ l.from) (ew : w ≡ get_or places f 0) where
-    is_place : w ≡ place places l.from
-    is_place = ew ∙ ap (λ v. get_or places v 0) ef ∙ read_place k laws (network_of s) sound (barred_in s) s.goal (gone q) i (held q) places stage.settles l.from from_below
-
+  -- w is where the leg's start stands
+  module _ (w : ℕ) (is_place : w ≡ place places l.from) where
     pub placed_in : w ≤ 63 → w < length (held q)
-    placed_in near = subst (λ x. x < length (held q)) (sym is_place) (stage.settles.placed.there l.from (omega (arith, near, is_place))).0
+    placed_in near = subst (λ x. x < length (held q)) (sym is_place) (a.stage.settles.placed.there l.from (omega (arith, near, is_place))).0
 
     pub relax_pass : ((Usable (network_of s) (barred_in s) i l → (w < gone q) ⊎ ((w ≤ 63) × (k.before (k.join (k.of_leg l) last.cost) (get_or (held q) w (blank k)).cost ≡ false)))) → Stage k s (suc i) q places
     relax_pass pass = record {
-      settles = settles_pass k laws (network_of s) sound (barred_in s) s.goal (gone q) i (held q) places stage.settles is.some last.station (ap (λ e. e.station) the_last) l at to
+      settles = settles_pass k a.laws (network_of s) sound (barred_in s) s.goal (gone q) i (held q) places a.stage.settles a.last_is.some last.station (ap (λ e. e.station) the_last) l a.at to
           (λ g. subst (λ c. (place places l.from < gone q) ⊎ ((place places l.from ≤ 63) × (k.before (k.join (k.of_leg l) c) (cost_of k (held q) places l.from) ≡ false))) (sym (ap (λ e. e.cost) the_last))
           (subst (λ x. (x < gone q) ⊎ ((x ≤ 63) × (k.before (k.join (k.of_leg l) last.cost) (get_or (held q) x (blank k)).cost ≡ false))) is_place (pass g)));
-      roomy = stage.roomy;
+      roomy = a.stage.roomy;
     }
 
     -- what `join` gives
-    pub relax_over : gone q ≤ w → (a r : C) → a ≡ k.of_leg l → ((m n : ℕ) → k.stands a m → k.stands last.cost n → m + n ≤ 63 → r ≡ k.join a last.cost) → r ≡ k.join (k.of_leg l) last.cost
-    relax_over open' a r ea joined =
-        settles_over k laws (network_of s) sound (barred_in s) s.goal (gone q) i (held q) places stage.settles is.some last.station (ap (λ e. e.station) the_last) l at to (omega (arith, open', is_place)) a last.cost r ea (sym (ap (λ e. e.cost) the_last)) joined
+    pub relax_over : gone q ≤ w → (c r : C) → c ≡ k.of_leg l → ((m n : ℕ) → k.stands c m → k.stands last.cost n → m + n ≤ 63 → r ≡ k.join c last.cost) → r ≡ k.join (k.of_leg l) last.cost
+    relax_over open' c r ec joined =
+        settles_over k a.laws (network_of s) sound (barred_in s) s.goal (gone q) i (held q) places a.stage.settles a.last_is.some last.station (ap (λ e. e.station) the_last) l a.at to (omega (arith, open', is_place)) c last.cost r ec (sym (ap (λ e. e.cost) the_last)) joined
         ∙ ap (λ e. k.join (k.of_leg l) e.cost) the_last
 
-    module _ (g : Usable (network_of s) (barred_in s) i l) (x : C) (ex : x ≡ k.join (k.of_leg l) last.cost) (q' : Queue (Entry C)) (gs : gone q' ≡ gone q) (rs : room q' ≡ room q) where
+    module _ (g : Usable (network_of s) (barred_in s) i l) (x : C) (ex : x ≡ k.join (k.of_leg l) last.cost) (q' : Queue (Entry C)) (keeps : Keeps q q') where
       ex' : x ≡ k.join (k.of_leg l) (get_or (held q) (gone q - 1) (blank k)).cost
       ex' = ex ∙ ap (λ e. k.join (k.of_leg l) e.cost) (sym the_last)
 
-      pub relax_insert : 64 ≤ w → held q' ≡ cond (has_room q) (held q ++ record { cost = x; station = l.from } ∷ []) (held q) → (places' : List ℕ) → places' ≡ set places f (length (held q)) → Stage k s (suc i) q' places'
+      pub relax_insert : 64 ≤ w → held q' ≡ cond (has_room q) (held q ++ record { cost = x; station = l.from } ∷ []) (held q) → (places' : List (Option ℕ)) → places' ≡ set places l.from (Some (length (held q))) → Stage k s (suc i) q' places'
       relax_insert new hs places' ps = record {
-        settles = subst (λ n. Settles k (network_of s) (barred_in s) s.goal n (suc i) (held q') places') (sym gs)
+        settles = subst (λ n. Settles k (network_of s) (barred_in s) s.goal n (suc i) (held q') places') (sym keeps.gone_is)
             (subst (λ es. Settles k (network_of s) (barred_in s) s.goal (gone q) (suc i) es places') (sym (hs ∙ cond-true (has_room q) (held q ++ record { cost = x; station = l.from } ∷ []) (held q) free))
-            (subst (λ ps'. Settles k (network_of s) (barred_in s) s.goal (gone q) (suc i) (held q ++ record { cost = x; station = l.from } ∷ []) ps') (sym (ps ∙ ap (λ v. set places v (length (held q))) ef))
-            (settles_insert k laws (network_of s) sound (barred_in s) s.goal (gone q) i (held q) places stage.settles is.some last.station (ap (λ e. e.station) the_last) l at to g x ex' (omega (arith, new, is_place)))));
-        roomy = subst (λ n. (network_of s).stations ≤ n) (sym rs) stage.roomy;
+            (subst (λ ps'. Settles k (network_of s) (barred_in s) s.goal (gone q) (suc i) (held q ++ record { cost = x; station = l.from } ∷ []) ps') (sym ps)
+            (settles_insert k a.laws (network_of s) sound (barred_in s) s.goal (gone q) i (held q) places a.stage.settles a.last_is.some last.station (ap (λ e. e.station) the_last) l a.at to g x ex' (omega (arith, new, is_place)))));
+        roomy = subst (λ n. (network_of s).stations ≤ n) (sym keeps.same_row.room_is) a.stage.roomy;
       }
         where
           free : has_room q ≡ true
-          free = lt-ltb (length (held q)) (room q) (omega (arith, stage.roomy, placed_room k (network_of s).stations sound.stations_high (held q) places stage.settles.placed l.from fits (omega (arith, new, is_place))))
+          free = lt-ltb (length (held q)) (room q) (omega (arith, a.stage.roomy, placed_room k (network_of s).stations sound.stations_high (held q) places a.stage.settles.placed l.from fits (omega (arith, new, is_place))))
 
       pub relax_replace : gone q ≤ w → w ≤ 63 → k.before x (get_or (held q) w (blank k)).cost ≡ true → held q' ≡ cond (waits_at q w) (set (held q) w (record { cost = x; station = l.from })) (held q) → Stage k s (suc i) q' places
       relax_replace open' near better hs = record {
-        settles = subst (λ n. Settles k (network_of s) (barred_in s) s.goal n (suc i) (held q') places) (sym gs)
+        settles = subst (λ n. Settles k (network_of s) (barred_in s) s.goal n (suc i) (held q') places) (sym keeps.gone_is)
             (subst (λ es. Settles k (network_of s) (barred_in s) s.goal (gone q) (suc i) es places) (sym (hs ∙ cond-true (waits_at q w) (set (held q) w (record { cost = x; station = l.from })) (held q) waits ∙ ap (λ v. set (held q) v (record { cost = x; station = l.from })) is_place))
-            (settles_replace k laws (network_of s) sound (barred_in s) s.goal (gone q) i (held q) places stage.settles is.some last.station (ap (λ e. e.station) the_last) l at to g x ex' (omega (arith, open', is_place)) (omega (arith, near, is_place))
+            (settles_replace k a.laws (network_of s) sound (barred_in s) s.goal (gone q) i (held q) places a.stage.settles a.last_is.some last.station (ap (λ e. e.station) the_last) l a.at to g x ex' (omega (arith, open', is_place)) (omega (arith, near, is_place))
             (subst (λ v. k.before x (get_or (held q) v (blank k)).cost ≡ true) is_place better)));
-        roomy = subst (λ n. (network_of s).stations ≤ n) (sym rs) stage.roomy;
+        roomy = subst (λ n. (network_of s).stations ≤ n) (sym keeps.same_row.room_is) a.stage.roomy;
       }
         where
           waits : waits_at q w ≡ true
@@ -95,44 +102,31 @@ cond_first : (t x : Bool) → cond t true x ≡ false → t ≡ false
 cond_first true x e = e
 cond_first false x e = refl
 
--- the next arrival, where the leg arrives at u
-next_at : (m : Meaning) (u e : ℕ) (x : Option Leg) (o : Option ℕ) → Arrives x u → NextFrom m e x o → FirstFrom m u (suc e) o
-next_at m u e None o a n = absurd a
-next_at m u e (Some l) o a n = subst (λ v. FirstFrom m v (suc e) o) a n
-
-pub next_first : (m : Meaning) (u e : ℕ) (o : Option ℕ) → Arrives (m.at e) u → NextArrival m e o → FirstFrom m u (suc e) o
-next_first m u e o a n = next_at m u e (m.at e) o a n
-
-pub first_arriving : (m : Meaning) (u i : ℕ) (o : Option ℕ) → FirstFrom m u i o → Arriving m u o
-first_arriving m u i None f = tt
-first_arriving m u i (Some e) f = (f.small, f.arrives)
-
-pub first_left : (m : Meaning) (u e : ℕ) (o : Option ℕ) → e < 512 → FirstFrom m u (suc e) o → left o < 512 - e
-first_left m u e None h f = omega (arith, h)
-first_left m u e (Some e') h f = omega (arith, f.from, h, f.small)
-
--- no leg before the one that is due arrives
-pub none_before : (m : Meaning) (u i : ℕ) (o : Option ℕ) → FirstFrom m u i o → (e : ℕ) (l : Leg) → m.at e ≡ Some l → l.to ≡ u → i ≤ e → e < due m o → ⊥
-none_before m u i None f e l at to h h' = f e h (subst (λ x. Arrives x u) (sym at) to)
-none_before m u i (Some e') f e l at to h h' = f.lowest e h h' (subst (λ x. Arrives x u) (sym at) to)
-
-module _ {K C : Type 0} (k : Costs C) (laws : Laws k) (s : Search K) (q : Queue (Entry C)) (places : List ℕ) where
-  pub last_kept : (q' : Queue (Entry C)) (last : Entry C) → Last k q last → taken q' ≡ taken q → gone q' ≡ gone q → Last k q' last
-  last_kept q' last is ts gs = record {
-    some = omega (arith, is.some, gs);
-    is = ap (λ n. get_or (taken q') (n - 1) (blank k)) gs ∙ ap (λ xs. get_or xs (gone q - 1) (blank k)) ts ∙ is.is;
+module _ {K C : Type 0} (k : Costs C) (laws : Laws k) (s : Search K) (q : Queue (Entry C)) (places : List (Option ℕ)) where
+  pub last_kept : (q' : Queue (Entry C)) (last : Entry C) → Last k q last → Keeps q q' → Last k q' last
+  last_kept q' last is keeps = record {
+    some = omega (arith, is.some, keeps.gone_is);
+    is = ap (λ n. get_or (taken q') (n - 1) (blank k)) keeps.gone_is ∙ ap (λ xs. get_or xs (gone q - 1) (blank k)) keeps.taken_is ∙ is.is;
   }
 
-  pub relaxing : (i : ℕ) (last : Entry C) (o : Option ℕ) → Stage k s i q places → Last k q last → FirstFrom (network_of s) last.station i o → Relaxing k s last o q places
-  relaxing i last o stage is f = record {
-    stage = record {
-      settles = settles_skip k laws (network_of s) (snapshot_sound s.network.now) (barred_in s) s.goal (gone q) i (held q) places stage.settles is.some last.station (ap (λ e. e.station) (last_held k q last is)) (due (network_of s) o)
-          (none_before (network_of s) last.station i o f);
-      roomy = stage.roomy;
-    };
-    last_is = is;
-    arriving = first_arriving (network_of s) last.station i o f;
+  -- no leg with a number from i up to e arrives there
+  skip : (i e : ℕ) (last : Entry C) → Stage k s i q places → Last k q last → ((f : ℕ) → i ≤ f → f < e → Arrives ((network_of s).at f) last.station → ⊥) → Stage k s e q places
+  skip i e last stage is none = record {
+    settles = settles_skip k laws (network_of s) (snapshot_sound s.network.now) (barred_in s) s.goal (gone q) i (held q) places stage.settles is.some last.station (ap (λ e. e.station) (last_held k q last is)) e
+        (λ f l at to h h'. none f h h' (subst (λ o. Arrives o last.station) (sym at) to));
+    roomy = stage.roomy;
   }
+
+  module _ (i : ℕ) (w w' : ArrivalsAt) (last : Entry C) (p : Relaxing k s last i w q places) where
+    -- at the next arrival, all legs before it were looked at
+    pub relaxing_next : (e : ℕ) → Stepped w (Some e) w' → Stage k s e q places × Arrives ((network_of s).at e) last.station × Awaits w' (network_of s) last.station (suc e)
+    relaxing_next e step =
+        let (here, more) = step (network_of s) last.station i p.awaits in
+        (skip i e last p.stage p.last_is here.lowest, here.arrives, more)
+
+    -- at the end, all were
+    pub relaxing_end : Stepped w None w' → Stage k s (network_of s).legs q places
+    relaxing_end step = skip i (network_of s).legs last p.stage p.last_is (λ f h _. step.1 (network_of s) last.station i p.awaits f h)
 
   -- nothing waits
   pub stage_end : Stage k s (network_of s).legs q places → waiting q ≡ [] → Settled k (network_of s) (barred_in s) s.goal (held q) places
@@ -144,7 +138,7 @@ module _ {K C : Type 0} (k : Costs C) (laws : Laws k) (s : Search K) (q : Queue 
     record {
       settles = subst (λ n. Settles k (network_of s) (barred_in s) s.goal n 0 (held q') (places_after k q' l places)) (sym gs)
           (settles_pop k laws (network_of s) (snapshot_sound s.network.now) (barred_in s) s.goal (gone q) (network_of s).legs (held q) places stage.settles l.place (held q') swap (places_after k q' l places) made refl least);
-      roomy = omega (arith, stage.roomy, comes.moved.room_is);
+      roomy = omega (arith, stage.roomy, comes.moved.same_row.room_is);
     },
     record {
       some = omega (arith, gs);
@@ -168,11 +162,11 @@ module _ {K C : Type 0} (k : Costs C) (laws : Laws k) (s : Search K) (q : Queue 
         others = λ j no ni. comes.moved.elsewhere j (blank k) no ni;
       }
 
-      made : places_after k q' l places ≡ set (set places (get_or (held q) (gone q) (blank k)).station l.place) (get_or (held q) l.place (blank k)).station (gone q)
+      made : places_after k q' l places ≡ set (set places (get_or (held q) (gone q) (blank k)).station (Some l.place)) (get_or (held q) l.place (blank k)).station (Some (gone q))
       made =
-          ap (λ v. set (set places v l.place) l.entry.station (gone q' - 1)) (ap (λ e. e.station) (comes.moved.at_place (blank k)))
-          ∙ ap (λ v. set (set places (get_or (held q) (gone q) (blank k)).station l.place) v (gone q' - 1)) (ap (λ e. e.station) (comes.moved.entry (blank k)))
-          ∙ ap (λ n. set (set places (get_or (held q) (gone q) (blank k)).station l.place) (get_or (held q) l.place (blank k)).station n) one_less
+          ap (λ v. set (set places v (Some l.place)) l.entry.station (Some (gone q' - 1))) (ap (λ e. e.station) (comes.moved.at_place (blank k)))
+          ∙ ap (λ v. set (set places (get_or (held q) (gone q) (blank k)).station (Some l.place)) v (Some (gone q' - 1))) (ap (λ e. e.station) (comes.moved.entry (blank k)))
+          ∙ ap (λ n. set (set places (get_or (held q) (gone q) (blank k)).station (Some l.place)) (get_or (held q) l.place (blank k)).station (Some n)) one_less
 
       least : (j : ℕ) → gone q ≤ j → j < length (held q) → k.before (get_or (held q) j (blank k)).cost (get_or (held q) l.place (blank k)).cost ≡ false
       least j low high =

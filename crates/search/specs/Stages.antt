@@ -1,12 +1,14 @@
 -- A search under way in a queue and its tables.
-use Rattle.std.specs.Prelude.{◌≡◌, ℕ, ◌-◌, ◌<◌, ◌≤◌, List, Some, None, Option, slice_index_or, slice_set}
+use Rattle.std.specs.Prelude.{◌≡◌, ℕ, ◌-◌, ◌<◌, ◌≤◌, List, Some, Option, slice_index_or, slice_set}
 use Rattle.network.specs.Meaning.{Meaning}
 use Rattle.cost.specs.Costs.{Costs}
 use Rattle.queue.specs.declared.least.Least.{Least}
 use Rattle.queue.specs.declared.queue.Queue.{Queue}
 use Rattle.queue.specs.Waiting.{taken, held, gone, room}
 use Rattle.route.specs.Routes as routes
-use Rattle.snapshot.specs.Meanings.{meaning_of, Arrives}
+use Rattle.snapshot.specs.Meanings.{meaning_of}
+use Rattle.snapshot.specs.Steps.{Awaits}
+use Rattle.snapshot.specs.declared.iter.ArrivalsAt.{ArrivalsAt}
 use Rattle.search_types.specs.declared.entry.Entry.{Entry}
 use Rattle.search.specs.declared.cost_table.CostTable.{CostTable}
 use Rattle.search.specs.declared.labels.Labels.{Labels}
@@ -22,7 +24,7 @@ abbrev pub barred_in : {K : Type 0} → Search K → routes.Bars
 barred_in s = bars_of s.bars.now
 
 -- phase 1, at the leg number i, with room for every station
-pub record Stage {K C : Type 0} (k : Costs C) (s : Search K) (i : ℕ) (q : Queue (Entry C)) (places : List ℕ) : Type 0 where
+pub record Stage {K C : Type 0} (k : Costs C) (s : Search K) (i : ℕ) (q : Queue (Entry C)) (places : List (Option ℕ)) : Type 0 where
   pub settles : Settles k (network_of s) (barred_in s) s.goal (gone q) i (held q) places
   pub roomy : (network_of s).stations ≤ room q
 
@@ -31,30 +33,17 @@ pub record Last {C : Type 0} (k : Costs C) (q : Queue (Entry C)) (last : Entry C
   pub some : 0 < gone q
   pub is : slice_index_or (taken q) (gone q - 1) (blank k) ≡ last
 
--- the leg number that is due, where the arrivals at a station are looked at one by one; past the last, the count of legs
-abbrev pub due : Meaning → Option ℕ → ℕ
-due m None = m.legs
-due m (Some e) = e
-
-abbrev pub Arriving : Meaning → ℕ → Option ℕ → Type 0
-Arriving m u None = Unit {0}
-Arriving m u (Some e) = (e < 512) × Arrives (m.at e) u
-
--- how many leg numbers are left at most
-abbrev pub left : Option ℕ → ℕ
-left None = 0
-left (Some e) = 512 - e
-
--- phase 1 while the arrivals at the station that came out last are looked at
-pub record Relaxing {K C : Type 0} (k : Costs C) (s : Search K) (last : Entry C) (arrival : Option ℕ) (q : Queue (Entry C)) (places : List ℕ) : Type 0 where
-  pub stage : Stage k s (due (network_of s) arrival) q places
+-- phase 1 while the arrivals at the station that came out last are looked at: those below i were, and the walk has the
+-- others
+pub record Relaxing {K C : Type 0} (k : Costs C) (s : Search K) (last : Entry C) (i : ℕ) (walk : ArrivalsAt) (q : Queue (Entry C)) (places : List (Option ℕ)) : Type 0 where
+  pub stage : Stage k s i q places
   pub last_is : Last k q last
-  pub arriving : Arriving (network_of s) last.station arrival
+  pub awaits : Awaits walk (network_of s) last.station i
 
 -- the places once a waiting entry has come out: it stands at the end of those that have, and the entry that stood there
 -- went to its place
-abbrev pub places_after : {C : Type 0} → Costs C → Queue (Entry C) → Least (Entry C) → List ℕ → List ℕ
-places_after k q l places = slice_set (slice_set places (slice_index_or (held q) l.place (blank k)).station l.place) l.entry.station (gone q - 1)
+abbrev pub places_after : {C : Type 0} → Costs C → Queue (Entry C) → Least (Entry C) → List (Option ℕ) → List (Option ℕ)
+places_after k q l places = slice_set (slice_set places (slice_index_or (held q) l.place (blank k)).station (Some l.place)) l.entry.station (Some (gone q - 1))
 
 abbrev pub table_cost : {C : Type 0} → Costs C → CostTable C → ℕ → C
 table_cost k t = cost_of k t.row.now t.places.now
@@ -71,8 +60,8 @@ pub record Current (ls : Labels) : Type 0 where
   pub in_line : ls.done < ls.count
   pub near : hops_of ls (line_of ls ls.done) ≤ 62
 
--- phase 2 while the arrivals at that station are looked at
-pub record Naming {K C : Type 0} (k : Costs C) (s : Search K) (t : CostTable C) (arrival : Option ℕ) (ls : Labels) : Type 0 where
-  pub labelled : LabelledIn k s t ls.done (due (network_of s) arrival) ls
+-- phase 2 while the arrivals at that station are looked at: those below i were, and the walk has the others
+pub record Naming {K C : Type 0} (k : Costs C) (s : Search K) (t : CostTable C) (i : ℕ) (walk : ArrivalsAt) (ls : Labels) : Type 0 where
+  pub labelled : LabelledIn k s t ls.done i ls
   pub current : Current ls
-  pub arriving : Arriving (network_of s) (line_of ls ls.done) arrival
+  pub awaits : Awaits walk (network_of s) (line_of ls ls.done) i

@@ -1,5 +1,5 @@
 // What the first phase of a search leaves: the cost from each station to the goal.
-ghost use Rattle.std.specs.Prelude.{◌≡◌, ◌<◌, length, slice_index_or};
+ghost use Rattle.std.specs.Prelude.{◌≡◌, ◌<◌, ◌≤◌, length, slice_index_or};
 ghost use Rattle.search_types.specs.declared.entry.Entry as entry;
 ghost use Rattle.search.specs.Tables.{place};
 
@@ -9,16 +9,8 @@ use search_types::entry::Entry;
 #[derive(Drop)]
 pub(crate) struct CostTable<'t, C> {
     pub(crate) row: &'t [Entry<C>],
-    pub(crate) places: &'t [u8; 64],
-}
-
-// The cost in the entry of a station that has one.
-fn cost_in<C: Copy>(row: &[Entry<C>], places: &[u8; 64], station: u8) -> C
-    requires station { station < 64 }
-    requires placed { place places.now station < length row.now }
-    ensures { (d : entry.Entry C) → result ≡ (slice_index_or row.now (place places.now station) d).cost }
-{
-    row[usize::from(places[usize::from(station)])].cost
+    pub(crate) places: &'t [Option<u8>; 64],
+    ghost few: { length row.now ≤ 64 },
 }
 
 impl<'t, C: Copy> CostTable<'t, C> {
@@ -28,6 +20,7 @@ impl<'t, C: Copy> CostTable<'t, C> {
         requires placed { place self.now.places.now station < length self.now.row.now }
         ensures { (d : entry.Entry C) → result ≡ (slice_index_or self.now.row.now (place self.now.places.now station) d).cost }
     {
-        cost_in(self.row, self.places, station)
+        let place = self.places[usize::from(station)].unwrap();
+        self.row[usize::from(place)].cost
     }
 }

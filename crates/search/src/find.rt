@@ -21,17 +21,15 @@ impl<'a, K: CostModel> Search<'a, K> {
         ensures found { Found (K.CostModel.costs self.now.model.now) (network_of self.now) (barred_in self.now) start self.now.goal result }
         ensures room { length workspace.new ≡ length workspace.old }
     {
-        let mut places = [64; 64];
-        places[usize::from(self.goal)] = 0;
+        let mut places = [None; 64];
+        places[usize::from(self.goal)] = Some(0);
         let mut queue = Queue::over(workspace);
         let _ = queue.insert(Entry {
             cost: self.model.zero(),
             station: self.goal,
         });
         self.settle(&mut queue, &mut places);
-        if places[usize::from(start)] > 63 {
-            return None;
-        }
+        places[usize::from(start)]?;
         let table = CostTable {
             row: queue.held(),
             places: &places,

@@ -1,6 +1,6 @@
 // The first phase of a search: the cost from each station to the goal, settled in rising order.
 ghost use Rattle.std.specs.Prelude.{◌≡◌, suc, ◌<◌, length, Some, Decides};
-ghost use Rattle.queue.specs.Waiting.{taken, held, room, gone};
+ghost use Rattle.queue.specs.Waiting.{held, SameRow, Keeps};
 ghost use Rattle.route.specs.Certificate.{Usable};
 ghost use Rattle.search.specs.Stages.{network_of, barred_in, Stage, Last, places_after};
 ghost use Rattle.search.specs.Tables.{Settled};
@@ -35,7 +35,7 @@ impl<'a, K: CostModel> Search<'a, K> {
     fn relax_leg(
         &self,
         queue: &mut Queue<Entry<K::Cost>>,
-        places: &mut [u8; 64],
+        places: &mut [Option<u8>; 64],
         last: Entry<K::Cost>,
         number: u16,
     )
@@ -43,17 +43,16 @@ impl<'a, K: CostModel> Search<'a, K> {
         requires last { Last (K.CostModel.costs self.now.model.now) queue.old last }
         requires arrives { Arrives ((network_of self.now).at number) last.station }
         ensures stage { Stage (K.CostModel.costs self.now.model.now) self.now (suc number) queue.new places.new }
-        ensures taken { taken queue.new ≡ taken queue.old }
-        ensures gone { gone queue.new ≡ gone queue.old }
-        ensures room { room queue.new ≡ room queue.old }
-        ensures lent { queue.new.row.ghost_name ≡ queue.old.row.ghost_name }
+        ensures keeps { Keeps queue.old queue.new }
     {
         let Some(leg) = self.network.leg_at(number) else {
             return;
         };
         let from = usize::from(leg.from);
-        let place = usize::from(places[from]);
-        if place < queue.gone() {
+        let place = places[from];
+        if let Some(place) = place
+            && usize::from(place) < queue.gone()
+        {
             return;
         }
         if !self.may_use(number, leg) {
@@ -64,31 +63,34 @@ impl<'a, K: CostModel> Search<'a, K> {
             cost,
             station: leg.from,
         };
-        if place > 63 {
-            places[from] = queue.held().len() as u8;
-            let _ = queue.insert(entry);
-        } else if self.model.before(cost, queue.held()[place].cost) {
-            let _ = queue.replace(place, entry);
+        match place {
+            None => {
+                places[from] = Some(queue.held().len() as u8);
+                let _ = queue.insert(entry);
+            }
+            Some(place) => {
+                let place = usize::from(place);
+                if self.model.before(cost, queue.held()[place].cost) {
+                    let _ = queue.replace(place, entry);
+                }
+            }
         }
     }
+
     // Every leg into the station that came out last.
     fn relax_arrivals(
         &self,
         queue: &mut Queue<Entry<K::Cost>>,
-        places: &mut [u8; 64],
+        places: &mut [Option<u8>; 64],
         last: Entry<K::Cost>,
     )
         requires stage { Stage (K.CostModel.costs self.now.model.now) self.now 0 queue.old places.old }
         requires last { Last (K.CostModel.costs self.now.model.now) queue.old last }
         ensures stage { Stage (K.CostModel.costs self.now.model.now) self.now (network_of self.now).legs queue.new places.new }
-        ensures gone { gone queue.new ≡ gone queue.old }
-        ensures room { room queue.new ≡ room queue.old }
-        ensures lent { queue.new.row.ghost_name ≡ queue.old.row.ghost_name }
+        ensures keeps { Keeps queue.old queue.new }
     {
-        let mut arrival = self.network.first_arrival(last.station);
-        while let Some(number) = arrival {
+        for number in self.network.arrivals(last.station) {
             self.relax_leg(queue, places, last, number);
-            arrival = self.network.next_arrival(number);
         }
     }
 
@@ -97,29 +99,26 @@ impl<'a, K: CostModel> Search<'a, K> {
     fn settle_least(
         &self,
         queue: &mut Queue<Entry<K::Cost>>,
-        places: &mut [u8; 64],
+        places: &mut [Option<u8>; 64],
         least: Least<Entry<K::Cost>>,
     )
         requires stage { Stage (K.CostModel.costs self.now.model.now) self.now 0 queue.old (places_after (K.CostModel.costs self.now.model.now) queue.old least places.old) }
         requires last { Last (K.CostModel.costs self.now.model.now) queue.old least.entry }
         requires place { least.place < length (held queue.old) }
         ensures stage { Stage (K.CostModel.costs self.now.model.now) self.now (network_of self.now).legs queue.new places.new }
-        ensures gone { gone queue.new ≡ gone queue.old }
-        ensures room { room queue.new ≡ room queue.old }
-        ensures lent { queue.new.row.ghost_name ≡ queue.old.row.ghost_name }
+        ensures keeps { Keeps queue.old queue.new }
     {
         let moved = queue.held()[least.place].station;
-        places[usize::from(moved)] = least.place as u8;
-        places[usize::from(least.entry.station)] = (queue.gone() - 1) as u8;
+        places[usize::from(moved)] = Some(least.place as u8);
+        places[usize::from(least.entry.station)] = Some((queue.gone() - 1) as u8);
         self.relax_arrivals(queue, places, least.entry);
     }
 
     // Takes the stations out of the queue in rising cost, until nothing waits.
-    pub(crate) fn settle(&self, queue: &mut Queue<Entry<K::Cost>>, places: &mut [u8; 64])
+    pub(crate) fn settle(&self, queue: &mut Queue<Entry<K::Cost>>, places: &mut [Option<u8>; 64])
         requires { Stage (K.CostModel.costs self.now.model.now) self.now (network_of self.now).legs queue.old places.old }
         ensures settled { Settled (K.CostModel.costs self.now.model.now) (network_of self.now) (barred_in self.now) self.now.goal (held queue.new) places.new }
-        ensures room { room queue.new ≡ room queue.old }
-        ensures lent { queue.new.row.ghost_name ≡ queue.old.row.ghost_name }
+        ensures same_row { SameRow queue.old queue.new }
     {
         let order = ByCost { model: self.model };
         while let Some(least) = queue.pop_least(&order) {

@@ -4,6 +4,6 @@
 mod arrivals;
 pub mod as_network;
 mod copy;
-mod lists;
+pub mod iter;
 mod questions;
 pub mod snapshot;

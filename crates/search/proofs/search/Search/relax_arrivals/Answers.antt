@@ -1,22 +1,54 @@
-use Rattle.std.proofs.Common.{refl, ◌∙◌, subst}
-use Rattle.search.specs.Stages.{network_of, Arriving}
-use Rattle.search.proofs.Relaxes.{relaxing, next_first, last_kept}
+use Rattle.std.proofs.Common.{suc, sym, subst}
+use Rattle.queue.proofs.Rows.{keeps_self, keeps_then}
+use Rattle.search.specs.Stages.{network_of}
+use Rattle.search.proofs.Relaxes.{relaxing_next, relaxing_end, last_kept}
+use Rattle.snapshot.specs.Steps.{Awaits}
 use Rattle.search.proofs.search.Search.relax_arrivals.Goals as goal
 
-pub loop-arrival-init : goal.loop-arrival-init
-loop-arrival-init g c = (relaxing (g.K.CostModel.costs c.args.self.now.model.now) (g.K.CostModel.laws c.args.self.now.model.now) c.args.self.now c.args.queue.now c.args.places.now 0 c.args.last c.first_arrival-arrival.result c.requires.stage c.requires.last c.first_arrival-arrival.ensures, refl, refl, refl)
+pub loop-number-init : goal.loop-number-init
+loop-number-init g c = (
+  (
+    0,
+    record {
+      stage = c.requires.stage;
+      last_is = c.requires.last;
+      awaits = subst (λ w. Awaits w (network_of c.args.self.now) c.args.last.station 0) (sym c.into_iter-number-iterator.ensures.into_iter_gives) c.arrivals-number-items.ensures;
+    },
+  ),
+  keeps_self c.args.queue.now,
+)
 
-pub loop-arrival-preserved : goal.loop-arrival-preserved
-loop-arrival-preserved g c =
-    let k = g.K.CostModel.costs c.args.self.now.model.now in
+pub relax_leg-requires : goal.relax_leg-requires
+relax_leg-requires g c =
     let s = c.args.self.now in
-    let was = c.loop-arrival.invariant.0 in
+    let (i, was) = c.loop-number.invariant.0 in
+    let next = relaxing_next (g.K.CostModel.costs s.model.now) (g.K.CostModel.laws s.model.now) s c.loop-number.queue c.loop-number.places i c.loop-number.number-iterator c.next.new.self c.args.last was c.in-Some.number c.in-Some.ensures.steps in
+    record { stage = next.0; last = was.last_is; arrives = next.1 }
+
+pub loop-number-preserved : goal.loop-number-preserved
+loop-number-preserved g c =
+    let s = c.args.self.now in
+    let k = g.K.CostModel.costs s.model.now in
+    let laws = g.K.CostModel.laws s.model.now in
     let after = c.relax_leg.ensures in
-    let here = subst (λ o. Arriving (network_of s) c.args.last.station o) c.in-Some.is was.arriving in (
-      relaxing k (g.K.CostModel.laws c.args.self.now.model.now) s c.relax_leg.new.queue c.relax_leg.new.places _ c.args.last c.next_arrival-arrival.result after.stage
-          (last_kept k (g.K.CostModel.laws c.args.self.now.model.now) s c.loop-arrival.queue c.loop-arrival.places c.relax_leg.new.queue c.args.last was.last_is after.taken after.gone)
-          (next_first (network_of s) c.args.last.station c.in-Some.number c.next_arrival-arrival.result here.1 c.next_arrival-arrival.ensures),
-      after.gone ∙ c.loop-arrival.invariant.1,
-      after.room ∙ c.loop-arrival.invariant.2,
-      after.lent ∙ c.loop-arrival.invariant.3,
+    let (i, was) = c.loop-number.invariant.0 in
+    let next = relaxing_next k laws s c.loop-number.queue c.loop-number.places i c.loop-number.number-iterator c.next.new.self c.args.last was c.in-Some.number c.in-Some.ensures.steps in (
+      (
+        suc c.in-Some.number,
+        record {
+          stage = after.stage;
+          last_is = last_kept k laws s c.loop-number.queue c.loop-number.places c.relax_leg.new.queue c.args.last was.last_is after.keeps;
+          awaits = next.2;
+        },
+      ),
+      keeps_then c.loop-number.invariant.1 after.keeps,
     )
+
+pub returns : goal.returns
+returns g c =
+    let s = c.args.self.now in
+    let (i, was) = c.loop-number.invariant.0 in
+    record {
+      stage = relaxing_end (g.K.CostModel.costs s.model.now) (g.K.CostModel.laws s.model.now) s c.loop-number.queue c.loop-number.places i c.loop-number.number-iterator c.next.new.self c.args.last was c.in-None.ensures.steps;
+      keeps = c.loop-number.invariant.1;
+    }

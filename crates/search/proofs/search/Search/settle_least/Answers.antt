@@ -1,4 +1,4 @@
-use Rattle.std.proofs.Common.{◌-◌, get_or, set, sym, ap, ◌∙◌, subst, arith}
+use Rattle.std.proofs.Common.{◌-◌, get_or, set, Some, sym, ap, ◌∙◌, subst, arith}
 use Rattle.queue.specs.Waiting.{held, gone}
 use Rattle.queue.proofs.Rows.{gone_within}
 use Rattle.search.specs.Stages.{network_of, Stage}
@@ -43,9 +43,9 @@ relax_arrivals-requires g c =
     let moved = ap (λ e. e.station) (get_or_default (held q) l.place (blank k) c.index-held-least.result c.requires.place) ∙ ap (λ xs. (get_or xs l.place c.index-held-least.result).station) (sym c.held.ensures) ∙ sym c.from.ensures in
     record {
       stage = subst (λ xs. Stage k c.args.self.now 0 q xs)
-          (ap (λ v. set (set ps v l.place) l.entry.station (gone q - 1)) moved
-          ∙ ap (λ v. set (set ps c.from.result l.place) v (gone q - 1)) (sym c.from-2.ensures)
-          ∙ ap (λ n. set (set ps c.from.result l.place) c.from-2.result (n - 1)) (sym c.gone.ensures))
+          (ap (λ v. set (set ps v (Some l.place)) l.entry.station (Some (gone q - 1))) moved
+          ∙ ap (λ v. set (set ps c.from.result (Some l.place)) v (Some (gone q - 1))) (sym c.from-2.ensures)
+          ∙ ap (λ n. set (set ps c.from.result (Some l.place)) c.from-2.result (Some (n - 1))) (sym c.gone.ensures))
           c.requires.stage;
       last = c.requires.last;
     }
