@@ -1,3 +1,2 @@
 mod Copies
 mod Links
-mod Seeks

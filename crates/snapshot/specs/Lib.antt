@@ -1,3 +1,4 @@
+pub mod Arrivals
 pub mod Meanings
 pub mod Sounds
 pub mod Tables

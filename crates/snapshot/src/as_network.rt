@@ -20,11 +20,6 @@ impl Network for Snapshot {
     }
 
     fn leg_at(&self, number: u16) -> Option<Leg> {
-        let place = usize::from(number);
-        if place < self.legs.len() {
-            self.legs[place]
-        } else {
-            None
-        }
+        self.legs.get(usize::from(number)).copied().flatten()
     }
 }

@@ -4,6 +4,5 @@
 mod arrivals;
 pub mod as_network;
 mod copy;
-mod lists;
 mod questions;
 pub mod snapshot;

@@ -2,30 +2,40 @@
 ghost use Rattle.std.specs.Prelude.{◌≡◌};
 ghost use Rattle.snapshot.specs.Meanings.{meaning_of, FirstFrom, NextArrival};
 
+use crate::arrivals::Arrivals;
 use crate::copy::legs_of;
-use crate::lists::{first_of, next_of, table};
 use crate::snapshot::Snapshot;
 use network::network::Network;
 
 impl Snapshot {
-    // The network as it is now.
+    /// The network as it is now.
     pub fn of<N: Network>(network: &N) -> Snapshot
         ensures { meaning_of result ≡ N.Network.meaning network.now }
     {
-        table(network, legs_of(network))
+        let stations = network.station_count();
+        let count = network.leg_count();
+        let legs = legs_of(network);
+        let Arrivals { first, next } = Arrivals::of(&legs);
+        Snapshot {
+            stations,
+            count,
+            legs,
+            first,
+            next,
+        }
     }
 
-    // The lowest leg that arrives at a station.
+    /// The lowest leg that arrives at a station.
     pub fn first_arrival(&self, station: u8) -> Option<u16>
         ensures { FirstFrom (meaning_of self.now) station 0 result }
     {
-        first_of(self, station)
+        self.first.get(usize::from(station)).copied().flatten()
     }
 
-    // The next higher leg that arrives where this one does; none where nothing is at the number.
+    /// The next higher leg that arrives where this one does; none where nothing is at the number.
     pub fn next_arrival(&self, number: u16) -> Option<u16>
         ensures { NextArrival (meaning_of self.now) number result }
     {
-        next_of(self, number)
+        self.next.get(usize::from(number)).copied().flatten()
     }
 }

@@ -1,28 +1,26 @@
 // The copy of a network.
 ghost use Rattle.std.specs.Prelude.{◌≡◌, ℕ, ◌≤◌, true, length, None, slice_index_or};
-ghost use Rattle.snapshot.specs.Tables.{none_or_fits, seek, follow};
+ghost use Rattle.snapshot.specs.Arrivals.{FirstFrom, NextArrival, FirstFrom-prop, NextArrival-prop};
+ghost use Rattle.snapshot.specs.Tables.{none_or_fits, table_meaning};
 
 use network::leg::Leg;
 
-// In the place of a leg number: there is none.
-pub(crate) const NONE: u16 = 512;
-
-// The legs by number, and those that arrive at a station as a list in rising leg number: `first` has its head for each
-// station, and `next` has for each leg the one that follows it.
+/// The legs by number, and those that arrive at a station as a list in rising leg number: `first` has its head for each
+/// station, and `next` has for each leg the one that follows it.
 #[derive(Drop)]
 pub struct Snapshot {
     pub(crate) stations: u8,
     // how many leg numbers there are
     pub(crate) count: u16,
     pub(crate) legs: [Option<Leg>; 512],
-    pub(crate) first: [u16; 64],
-    pub(crate) next: [u16; 512],
+    pub(crate) first: [Option<u16>; 64],
+    pub(crate) next: [Option<u16>; 512],
     ghost wide: { length legs ≡ 512 },
     ghost low: { 2 ≤ stations },
     ghost high: { stations ≤ 64 },
     ghost few: { count ≤ 512 },
     ghost past: { (i : ℕ) → count ≤ i → slice_index_or legs i None ≡ None },
     ghost fits: { (i : ℕ) → none_or_fits stations (slice_index_or legs i None) ≡ true },
-    ghost firsts: { (u : ℕ) → slice_index_or first u 512 ≡ seek u 0 legs },
-    ghost nexts: { (e : ℕ) → slice_index_or next e 512 ≡ follow e legs },
+    ghost firsts: { (u : ℕ) → FirstFrom (table_meaning stations count legs) u 0 (slice_index_or first u None) } by { Prim.hlevel FirstFrom-prop },
+    ghost nexts: { (e : ℕ) → NextArrival (table_meaning stations count legs) e (slice_index_or next e None) } by { Prim.hlevel NextArrival-prop },
 }

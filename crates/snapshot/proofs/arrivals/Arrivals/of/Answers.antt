@@ -1,6 +1,6 @@
 use Rattle.std.proofs.Common.{◌≡◌, length, rules}
 use Rattle.snapshot.proofs.Links.{linked_start}
-use Rattle.snapshot.proofs.arrivals.arrivals_of.Goals as goal
+use Rattle.snapshot.proofs.arrivals.Arrivals.of.Goals as goal
 
 pub loop-number-init : goal.loop-number-init
 loop-number-init c =

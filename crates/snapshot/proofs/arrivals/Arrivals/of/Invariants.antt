@@ -1,5 +1,5 @@
 use Rattle.snapshot.specs.Tables.{Linked}
-use Rattle.snapshot.proofs.arrivals.arrivals_of.Given as goal
+use Rattle.snapshot.proofs.arrivals.Arrivals.of.Given as goal
 
 -- the legs that are left are in no list yet
 abbrev pub invariant-loop-number : goal.invariant-loop-number
