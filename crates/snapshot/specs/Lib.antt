@@ -1,4 +1,5 @@
 pub mod Arrivals
 pub mod Meanings
 pub mod Sounds
+pub mod Steps
 pub mod Tables

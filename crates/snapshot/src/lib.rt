@@ -4,5 +4,6 @@
 mod arrivals;
 pub mod as_network;
 mod copy;
+pub mod iter;
 mod questions;
 pub mod snapshot;

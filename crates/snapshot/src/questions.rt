@@ -1,9 +1,11 @@
 // Making the copy, and asking it for the legs by arrival.
 ghost use Rattle.std.specs.Prelude.{◌≡◌};
 ghost use Rattle.snapshot.specs.Meanings.{meaning_of, FirstFrom, NextArrival};
+ghost use Rattle.snapshot.specs.Steps.{Awaits};
 
 use crate::arrivals::Arrivals;
 use crate::copy::legs_of;
+use crate::iter::ArrivalsAt;
 use crate::snapshot::Snapshot;
 use network::network::Network;
 
@@ -37,5 +39,15 @@ impl Snapshot {
         ensures { NextArrival (meaning_of self.now) number result }
     {
         self.next.get(usize::from(number)).copied().flatten()
+    }
+
+    /// The legs that arrive at a station, in rising number.
+    pub fn arrivals(&self, station: u8) -> ArrivalsAt<'_>
+        ensures { Awaits result (meaning_of self.now) station 0 }
+    {
+        ArrivalsAt {
+            snapshot: self,
+            number: self.first_arrival(station),
+        }
     }
 }
