@@ -1,5 +1,5 @@
 -- Phase 2 in its tables: what one leg does.
-use Rattle.std.proofs.Common.{◌≡◌, ℕ, suc, ◌+◌, ◌<◌, ◌≤◌, Bool, true, false, eqb, ltb, ◌⊎◌, length, get_or, set, Some, Decides, Option, sym, refl, ap, ◌∙◌, subst, inl, inr, arith}
+use Rattle.std.proofs.Common.{◌≡◌, ℕ, suc, ◌+◌, ◌<◌, ◌≤◌, Bool, true, false, eqb, ltb, ◌⊎◌, length, get_or, set, Some, None, Decides, sym, refl, ap, ◌∙◌, subst, inl, inr, arith}
 use Rattle.network.specs.declared.leg.Leg.{Leg}
 use Rattle.network.specs.Meaning.{Sound}
 use Rattle.cost.specs.Costs.{Costs, Laws}
@@ -9,12 +9,13 @@ use Rattle.search.specs.declared.cost_table.CostTable.{CostTable}
 use Rattle.search.specs.declared.labels.Labels.{Labels}
 use Rattle.search.specs.declared.search.Search.{Search}
 use Rattle.search.specs.Lines.{line_of, hops_of, first_of, unlabelled, improves, put_label}
-use Rattle.search.specs.Stages.{network_of, barred_in, table_cost, SettledIn, LabelledIn, Current, due, Naming}
+use Rattle.search.specs.Stages.{network_of, barred_in, table_cost, SettledIn, LabelledIn, Current, Naming}
 use Rattle.search.specs.Tables.{place, seen, turn}
 use Rattle.search.proofs.Lines.{labelled_below, read_hops, labelled_settled, labelled_stands, labelled_skip, labelled_pass, labelled_room, labelled_put}
-use Rattle.search.proofs.Relaxes.{none_before, first_arriving}
 use Rattle.search.proofs.Tables.{seen_placed, placed_below}
-use Rattle.snapshot.specs.Meanings.{Arrives, FirstFrom}
+use Rattle.snapshot.specs.Meanings.{Arrives}
+use Rattle.snapshot.specs.Steps.{Awaits, Stepped}
+use Rattle.snapshot.specs.declared.iter.ArrivalsAt.{ArrivalsAt}
 use Rattle.snapshot.specs.Sounds.{snapshot_sound}
 use Rattle.std.proofs.lemmas.List.{get_or-set_other}
 use Rattle.std.proofs.lemmas.Bool.{cases_eq, eq-eqb, ne_eqb, ltb-true, ltb-false, cond-true, cond-false, cond_both}
@@ -103,10 +104,17 @@ module _ {K C : Type 0} (k : Costs C) (laws : Laws k) (s : Search K) (t : CostTa
             (omega (arith, get_or-set_other ls.hops l.from l.to h 64 (λ e. omega (arith, ap (hops_of ls) e, more, eh)), to_hops));
       }
 
-  -- the arrivals at the current station, one by one
-  pub naming : (i : ℕ) (ls : Labels) (o : Option ℕ) → LabelledIn k s t ls.done i ls → Current ls → FirstFrom (network_of s) (line_of ls ls.done) i o → Naming k s t o ls
-  naming i ls o p cur f = record {
-    labelled = labelled_skip k (network_of s) (barred_in s) s.goal ls.done i (table_cost k t) ls p (due (network_of s) o) (none_before (network_of s) (line_of ls ls.done) i o f);
-    current = cur;
-    arriving = first_arriving (network_of s) (line_of ls ls.done) i o f;
-  }
+  module _ (i : ℕ) (w w' : ArrivalsAt) (ls : Labels) (p : Naming k s t i w ls) where
+    -- at the next arrival, all legs before it were looked at
+    pub naming_next : (e : ℕ) → Stepped w (Some e) w' → LabelledIn k s t ls.done e ls × Arrives ((network_of s).at e) (line_of ls ls.done) × Awaits w' (network_of s) (line_of ls ls.done) (suc e)
+    naming_next e step =
+        let (here, more) = step (network_of s) (line_of ls ls.done) i p.awaits in (
+          labelled_skip k (network_of s) (barred_in s) s.goal ls.done i (table_cost k t) ls p.labelled e (λ f l at to h h'. here.lowest f h h' (subst (λ o. Arrives o (line_of ls ls.done)) (sym at) to)),
+          here.arrives,
+          more,
+        )
+
+    -- at the end, all were
+    pub naming_end : Stepped w None w' → LabelledIn k s t ls.done (network_of s).legs ls
+    naming_end step = labelled_skip k (network_of s) (barred_in s) s.goal ls.done i (table_cost k t) ls p.labelled (network_of s).legs
+        (λ f l at to h _. step.1 (network_of s) (line_of ls ls.done) i p.awaits f h (subst (λ o. Arrives o (line_of ls ls.done)) (sym at) to))

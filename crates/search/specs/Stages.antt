@@ -7,6 +7,8 @@ use Rattle.queue.specs.declared.queue.Queue.{Queue}
 use Rattle.queue.specs.Waiting.{taken, held, gone, room}
 use Rattle.route.specs.Routes as routes
 use Rattle.snapshot.specs.Meanings.{meaning_of, Arrives}
+use Rattle.snapshot.specs.Steps.{Awaits}
+use Rattle.snapshot.specs.declared.iter.ArrivalsAt.{ArrivalsAt}
 use Rattle.search_types.specs.declared.entry.Entry.{Entry}
 use Rattle.search.specs.declared.cost_table.CostTable.{CostTable}
 use Rattle.search.specs.declared.labels.Labels.{Labels}
@@ -71,8 +73,8 @@ pub record Current (ls : Labels) : Type 0 where
   pub in_line : ls.done < ls.count
   pub near : hops_of ls (line_of ls ls.done) ≤ 62
 
--- phase 2 while the arrivals at that station are looked at
-pub record Naming {K C : Type 0} (k : Costs C) (s : Search K) (t : CostTable C) (arrival : Option ℕ) (ls : Labels) : Type 0 where
-  pub labelled : LabelledIn k s t ls.done (due (network_of s) arrival) ls
+-- phase 2 while the arrivals at that station are looked at: those below i were, and the walk has the others
+pub record Naming {K C : Type 0} (k : Costs C) (s : Search K) (t : CostTable C) (i : ℕ) (walk : ArrivalsAt) (ls : Labels) : Type 0 where
+  pub labelled : LabelledIn k s t ls.done i ls
   pub current : Current ls
-  pub arriving : Arriving (network_of s) (line_of ls ls.done) arrival
+  pub awaits : Awaits walk (network_of s) (line_of ls ls.done) i

@@ -76,10 +76,8 @@ impl<'a, K: CostModel> Search<'a, K> {
         if labels.hops[usize::from(station)] > 62 {
             return;
         }
-        let mut arrival = self.network.first_arrival(station);
-        while let Some(number) = arrival {
+        for number in self.network.arrivals(station) {
             self.label_leg(table, labels, number);
-            arrival = self.network.next_arrival(number);
         }
     }
 
