@@ -9,7 +9,6 @@ ghost use Rattle.map_file.specs.Views.{text_told, record_told, due_told};
 ghost use Rattle.map_file.specs.Writing.{Short};
 
 use crate::fields::fits;
-use crate::kind::{kind_of, mark};
 use map_format::kind::Kind;
 use map_format::record::Record;
 use network::leg::Leg;
@@ -84,7 +83,7 @@ pub(crate) fn due_record(
     if at >= bytes.len() {
         return Err(Refusal::CutShort);
     }
-    if bytes[at] != mark(kind) {
+    if bytes[at] != u8::from(kind) {
         return Err(Refusal::WrongKind);
     }
     let Some((what, end)) = whole_record(bytes, at, kind) else {
@@ -105,7 +104,7 @@ fn any_record(bytes: &[u8], at: usize) -> Option<(Record<'_>, usize)>
     if at >= bytes.len() {
         return None;
     }
-    let kind = kind_of(bytes[at])?;
+    let kind = Kind::try_from(bytes[at]).ok()?;
     whole_record(bytes, at, kind)
 }
 

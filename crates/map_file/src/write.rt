@@ -6,7 +6,6 @@ ghost use Rattle.map_file.specs.Writing.{heading_refusal, record_refusal, leg_re
 
 use crate::fields::{leg_fits, name_fits, notice_fits};
 use crate::heading::{counts_fit, stations_fit};
-use crate::kind::mark;
 use map_format::heading::Heading;
 use map_format::kind::Kind;
 use map_format::record::Record;
@@ -39,7 +38,7 @@ fn put_leg(leg: Leg, out: &mut [u8], at: usize)
     let high = (leg.seconds / 256) as u8;
     let low = (leg.seconds % 256) as u8;
     let bytes = [
-        mark(Kind::Leg),
+        u8::from(Kind::Leg),
         leg.from,
         leg.to,
         high,
@@ -55,7 +54,7 @@ fn put_text(kind: Kind, text: &[u8], out: &mut [u8], at: usize)
     requires short { length text.now < 256 }
     ensures { out.new ≡ spliced out.old at (encode_text kind text.now) }
 {
-    let front = [mark(kind), text.len() as u8];
+    let front = [u8::from(kind), text.len() as u8];
     put(&front, out, at);
     put(text, out, at + 2);
 }
