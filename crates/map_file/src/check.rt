@@ -18,10 +18,9 @@ pub(crate) fn check_run(
 {
     let mut at = start;
     for _ in 0..count {
-        match due_record(bytes, at, kind, stations) {
-            Ok((_, end)) => at = end,
-            Err(why) => return Err(Fault { why, place: at }),
-        }
+        let (_, end) =
+            due_record(bytes, at, kind, stations).map_err(|why| Fault { why, place: at })?;
+        at = end;
     }
     Ok(at)
 }
@@ -32,10 +31,9 @@ pub(crate) fn check_notices(bytes: &[u8], stations: u8, start: usize) -> Result<
 {
     let mut at = start;
     while at < bytes.len() {
-        match due_record(bytes, at, Kind::Notice, stations) {
-            Ok((_, end)) => at = end,
-            Err(why) => return Err(Fault { why, place: at }),
-        }
+        let (_, end) =
+            due_record(bytes, at, Kind::Notice, stations).map_err(|why| Fault { why, place: at })?;
+        at = end;
     }
     Ok(at)
 }

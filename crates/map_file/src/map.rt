@@ -41,10 +41,7 @@ impl<'a> Map<'a> {
         ensures network { IfOk result ShowsRecords }
         ensures same { IfOk result (λ m. encode_map m ≡ bytes.now) }
     {
-        let heading = match read_heading(bytes) {
-            Ok(heading) => heading,
-            Err(why) => return Err(Fault { why, place: 0 }),
-        };
+        let heading = read_heading(bytes).map_err(|why| Fault { why, place: 0 })?;
         let Heading { stations, legs } = heading;
         let legs_at = check_run(bytes, Kind::Station, stations, u16::from(stations), 8)?;
         let notices_at = check_run(bytes, Kind::Leg, stations, legs, legs_at)?;
