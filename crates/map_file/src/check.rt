@@ -18,8 +18,10 @@ pub(crate) fn check_run(
 {
     let mut at = start;
     for _ in 0..count {
-        let (_, end) =
-            due_record(bytes, at, kind, stations).map_err(|why| Fault { why, place: at })?;
+        let (_, end) = due_record(bytes, at, kind, stations).map_err(|why| Fault {
+            why,
+            place: at,
+        })?;
         at = end;
     }
     Ok(at)
@@ -31,8 +33,10 @@ pub(crate) fn check_notices(bytes: &[u8], stations: u8, start: usize) -> Result<
 {
     let mut at = start;
     while at < bytes.len() {
-        let (_, end) =
-            due_record(bytes, at, Kind::Notice, stations).map_err(|why| Fault { why, place: at })?;
+        let (_, end) = due_record(bytes, at, Kind::Notice, stations).map_err(|why| Fault {
+            why,
+            place: at,
+        })?;
         at = end;
     }
     Ok(at)

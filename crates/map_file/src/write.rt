@@ -5,11 +5,12 @@ ghost use Rattle.map_format.specs.Views.{said};
 ghost use Rattle.map_file.specs.Writing.{heading_refusal, record_refusal, leg_refusal, write_answer, buffer_after, spliced, Short};
 
 use crate::fields::{leg_fits, name_fits, notice_fits};
-use crate::heading::{counts_fit, stations_fit};
+use crate::heading::counts_fit;
 use map_format::heading::Heading;
 use map_format::kind::Kind;
 use map_format::record::Record;
 use network::leg::Leg;
+use network::network::stations_fit;
 use network::refusal::Refusal;
 
 // Puts these bytes into a buffer from an offset on.
@@ -25,8 +26,7 @@ pub(crate) fn put_heading(heading: Heading, out: &mut [u8])
     requires { 8 ≤ length out.old }
     ensures { out.new ≡ spliced out.old 0 (encode_heading heading) }
 {
-    let high = (heading.legs / 256) as u8;
-    let low = (heading.legs % 256) as u8;
+    let [high, low] = heading.legs.to_be_bytes();
     let bytes = [b'L', b'P', b'N', 0, 1, heading.stations, high, low];
     put(&bytes, out, 0);
 }
@@ -35,8 +35,7 @@ fn put_leg(leg: Leg, out: &mut [u8], at: usize)
     requires { at + 7 ≤ length out.old }
     ensures { out.new ≡ spliced out.old at (encode (leg_item leg)) }
 {
-    let high = (leg.seconds / 256) as u8;
-    let low = (leg.seconds % 256) as u8;
+    let [high, low] = leg.seconds.to_be_bytes();
     let bytes = [
         u8::from(Kind::Leg),
         leg.from,
