@@ -1,7 +1,8 @@
 -- What accepting promises of the map that it makes.
-use Rattle.std.proofs.Common.{◌≡◌, ℕ, ◌+◌, ◌-◌, ◌*◌, ◌<◌, ◌≤◌, true, not, ◌&&◌, eqb, ltb, leb, length, Some, None, Ok, sym, ap, ◌∙◌, arith}
+use Rattle.std.proofs.Common.{◌≡◌, ℕ, ◌+◌, ◌-◌, ◌*◌, ◌<◌, ◌≤◌, true, not, eqb, ltb, leb, length, Some, None, Ok, sym, ap, ◌∙◌, arith}
 use Rattle.std.proofs.lemmas.Bool.{and_parts, not-true, cond-true, leb-true, lt-ltb, eqb-false}
 use Rattle.std.specs.List.{slice_get}
+use Rattle.network.specs.Ranges.{in_range}
 use Rattle.network.specs.declared.leg.Leg.{Leg}
 use Rattle.map_format.specs.declared.kind.Kind.TheVariants.{Station as StationKind, Leg as LegKind}
 use Rattle.map_file.specs.declared.map.Map.{Map}
@@ -17,10 +18,7 @@ use Rattle.map_format.proofs.Walks.{end_inv}
 
 apart_ends : (s : ℕ) (l : Leg) → leg_fits s l ≡ true → l.from ≡ l.to → ⊥
 apart_ends s l e same =
-    let ends = ltb l.from s && ltb l.to s in
-    let a = and_parts (ends && not (eqb l.from l.to)) (leb 1 l.seconds && leb l.seconds 43200 && leb l.points 99 && leb l.grade 3) e in
-    let b = and_parts ends (not (eqb l.from l.to)) a.0 in
-    eqb-false l.from l.to (not-true (eqb l.from l.to) b.1) same
+    eqb-false l.from l.to (not-true (eqb l.from l.to) (and_parts (not (eqb l.from l.to)) (in_range s l) e).0) same
 
 -- each phase ended where the next one began
 pub record Tested (m : Map) (end : ℕ) : Type 0 where

@@ -1,8 +1,9 @@
 -- An accepted map as a network.
-use Rattle.std.specs.Prelude.{◌≡◌, ℕ, ◌+◌, ◌<◌, ◌≤◌, min, Bool, true, cond, not, ◌&&◌, ltb, leb, Some, None, Option, ◌==◌, ◌≢◌, nat_le, nat_lt}
+use Rattle.std.specs.Prelude.{◌≡◌, ℕ, ◌+◌, ◌<◌, ◌≤◌, min, Bool, true, cond, not, Some, None, Option, ◌==◌, ◌≢◌, nat_le, nat_lt}
 use Rattle.std.proofs.Common.{ap, subst, arith}
-use Rattle.std.proofs.lemmas.Bool.{and_parts, leb-true, ltb-true, le-ltb, cond_both}
+use Rattle.std.proofs.lemmas.Bool.{and_parts, leb-true, le-ltb, cond_both}
 use Rattle.network.specs.Meaning.{Meaning, Sound, LegFits}
+use Rattle.network.specs.Ranges.{in_range, in_range_fits}
 use Rattle.network.specs.Shown.{nothing, held}
 use Rattle.network.specs.declared.leg.Leg.{Leg}
 use Rattle.std.specs.List.{slice_get}
@@ -38,19 +39,7 @@ pub record ShowsRecords (m : Map) : Type 0 where
 -- ---- the ranges
 
 pub fits_leg : (s : ℕ) (l : Leg) → leg_fits s l ≡ true → LegFits s l
-fits_leg s l e =
-    let ends = nat_lt l.from s && ltb l.to s in
-    let time = nat_le 1 l.seconds && leb l.seconds 43200 in
-    let all = and_parts (ends && not (l.from == l.to)) (time && nat_le l.points 99 && nat_le l.grade 3) e in
-    let a = and_parts (nat_lt l.from s) (nat_lt l.to s) (and_parts ends (not (l.from == l.to)) all.0).0 in
-    let b = and_parts (time && nat_le l.points 99) (nat_le l.grade 3) all.1 in
-    let c = and_parts time (nat_le l.points 99) b.0 in
-    let d = and_parts (nat_le 1 l.seconds) (nat_le l.seconds 43200) c.0 in
-    record {
-      from_fits = ltb-true _ _ a.0;
-      to_fits = ltb-true _ _ a.1;
-      figures = record { seconds_low = leb-true _ _ d.0; seconds_high = leb-true _ _ d.1; points_high = leb-true _ _ c.1; grade_high = leb-true _ _ b.1 };
-    }
+fits_leg s l e = in_range_fits s l (and_parts (not (l.from == l.to)) (in_range s l) e).1
 
 fitting_fits : (s : ℕ) (o : Option Leg) (l : Leg) → fitting s o ≡ Some l → LegFits s l
 fitting_fits s None l e = absurd (nothing l e)

@@ -1,5 +1,6 @@
 -- What is left of a walk, and one step of it.
-use Rattle.std.specs.Prelude.{◌≡◌, ℕ, ◌<◌, ◌≤◌, List, [], ◌∷◌, length, Some, None, Option}
+use Rattle.std.specs.Prelude.{◌≡◌, ℕ, ◌<◌, ◌≤◌, List, [], ◌∷◌, length, Some, None, Ok, Err, Option, Result}
+use Rattle.map_format.specs.declared.fault.Fault.{Fault}
 use Rattle.map_format.specs.declared.record.Placed.{Placed}
 use Rattle.map_file.specs.declared.walk.Records.{Records}
 use Rattle.map_format.specs.Format.{Item}
@@ -14,6 +15,11 @@ left_in w = records_from w.bytes.now w.at
 abbrev pub Stepped : Records → Option Placed → Records → Type 0
 Stepped w (Some p) v = left_in w ≡ seen p ∷ left_in v
 Stepped w None v = (left_in w ≡ []) × (v ≡ w)
+
+-- the offset behind what was tested, or its fault
+abbrev pub behind : Result (Unit {0}) Fault → Records → Result ℕ Fault
+behind (Ok _) w = Ok w.at
+behind (Err f) w = Err f
 
 -- the records from an offset on begin with one that was read, or there are none
 abbrev pub Begins : List ℕ → ℕ → Option (Item × ℕ) → Type 0

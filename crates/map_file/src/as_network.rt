@@ -2,10 +2,9 @@
 ghost use Rattle.map_file.specs.Networks.{map_meaning, map_sound};
 
 use crate::fields::leg_fits;
-use crate::heading::stations_fit;
 use crate::map::Map;
 use network::leg::Leg;
-use network::network::Network;
+use network::network::{Network, stations_fit};
 
 impl<'a> Network for Map<'a> {
     ghost meaning = { map_meaning };

@@ -1,43 +1,30 @@
 // The ranges of a record's fields.
 ghost use Rattle.std.specs.Prelude.{◌≡◌};
-ghost use Rattle.map_format.specs.Format.{printable_byte, printable, name_fits, leg_fits, notice_fits, fits};
+ghost use Rattle.map_format.specs.Format.{printable, name_fits, leg_fits, notice_fits, fits};
 ghost use Rattle.map_format.specs.Views.{said};
 
 use map_format::record::Record;
 use network::leg::Leg;
 
-fn is_printable(byte: u8) -> bool
-    ensures { result ≡ printable_byte byte }
-{
-    0x20 <= byte && byte <= 0x7E
-}
-
 // Whether every byte is a printable one.
 pub(crate) fn printable(text: &[u8]) -> bool
     ensures { result ≡ printable text.now }
 {
-    for byte in text {
-        if !is_printable(*byte) {
-            return false;
-        }
-    }
-    true
+    text.iter().all(|byte| (0x20..=0x7E).contains(byte))
 }
 
 // Whether a leg may stand in a map of so many stations.
 pub(crate) fn leg_fits(leg: Leg, stations: u8) -> bool
     ensures { result ≡ leg_fits stations leg }
 {
-    let ends = leg.from < stations && leg.to < stations && leg.from != leg.to;
-    let ride = 1 <= leg.seconds && leg.seconds <= 43_200 && leg.points <= 99 && leg.grade <= 3;
-    ends && ride
+    leg.from != leg.to && leg.is_in_range(stations)
 }
 
 // Whether a station may have this name.
 pub(crate) fn name_fits(name: &[u8]) -> bool
     ensures { result ≡ name_fits name.now }
 {
-    1 <= name.len() && name.len() <= 20 && printable(name)
+    (1..=20).contains(&name.len()) && printable(name)
 }
 
 // Whether a notice may have this text.

@@ -1,17 +1,11 @@
 // The front of a map file.
 ghost use Rattle.std.specs.Prelude.{◌≡◌};
-ghost use Rattle.map_format.specs.Format.{stations_fit, counts_fit};
+ghost use Rattle.map_format.specs.Format.{counts_fit};
 ghost use Rattle.map_format.specs.Reading.{read_heading};
 
 use map_format::heading::Heading;
+use network::network::stations_fit;
 use network::refusal::Refusal;
-
-// Whether a map may have so many stations.
-pub(crate) fn stations_fit(stations: u8) -> bool
-    ensures { result ≡ stations_fit stations }
-{
-    2 <= stations && stations <= 64
-}
 
 // Whether a map may have so many stations and legs.
 pub(crate) fn counts_fit(heading: Heading) -> bool
@@ -27,15 +21,15 @@ pub(crate) fn read_heading(bytes: &[u8]) -> Result<Heading, Refusal>
     if bytes.len() < 8 {
         return Err(Refusal::CutShort);
     }
-    if !(bytes[0] == b'L' && bytes[1] == b'P' && bytes[2] == b'N') {
+    let [b'L', b'P', b'N', rest @ ..] = bytes else {
         return Err(Refusal::WrongMark);
-    }
-    if !(bytes[3] == 0 && bytes[4] == 1) {
+    };
+    let [0, 1, stations, high, low, ..] = rest else {
         return Err(Refusal::WrongVersion);
-    }
+    };
     let heading = Heading {
-        stations: bytes[5],
-        legs: 256 * u16::from(bytes[6]) + u16::from(bytes[7]),
+        stations: *stations,
+        legs: u16::from_be_bytes([*high, *low]),
     };
     if counts_fit(heading) {
         Ok(heading)

@@ -9,7 +9,6 @@ pub mod as_network;
 mod check;
 mod fields;
 mod heading;
-mod kind;
 pub mod map;
 mod read;
 mod rewrite;

@@ -10,7 +10,6 @@ ghost use Rattle.map_file.specs.Steps.{left_in};
 ghost use Rattle.map_file.specs.Maps.{told, Indexed, encode_map, records_of, notices_of, leg_number};
 ghost use Rattle.map_file.specs.Writing.{write_answer, buffer_after};
 
-use crate::check::{check_notices, check_run};
 use crate::heading::read_heading;
 use crate::read::record_at;
 use crate::rewrite::rewrite_file;
@@ -41,14 +40,14 @@ impl<'a> Map<'a> {
         ensures network { IfOk result ShowsRecords }
         ensures same { IfOk result (λ m. encode_map m ≡ bytes.now) }
     {
-        let heading = match read_heading(bytes) {
-            Ok(heading) => heading,
-            Err(why) => return Err(Fault { why, place: 0 }),
-        };
+        let heading = read_heading(bytes).map_err(|why| Fault { why, place: 0 })?;
         let Heading { stations, legs } = heading;
-        let legs_at = check_run(bytes, Kind::Station, stations, u16::from(stations), 8)?;
-        let notices_at = check_run(bytes, Kind::Leg, stations, legs, legs_at)?;
-        check_notices(bytes, stations, notices_at)?;
+        let mut records = Records { bytes, at: 8 };
+        records.pass_run(Kind::Station, stations, u16::from(stations))?;
+        let legs_at = records.at;
+        records.pass_run(Kind::Leg, stations, legs)?;
+        let notices_at = records.at;
+        records.pass_notices(stations)?;
         Ok(Map {
             bytes,
             heading,

@@ -9,7 +9,6 @@ ghost use Rattle.map_file.specs.Views.{text_told, record_told, due_told};
 ghost use Rattle.map_file.specs.Writing.{Short};
 
 use crate::fields::fits;
-use crate::kind::{kind_of, mark};
 use map_format::kind::Kind;
 use map_format::record::Record;
 use network::leg::Leg;
@@ -23,7 +22,7 @@ fn leg_at(bytes: &[u8], at: usize) -> Leg
     Leg {
         from: bytes[at + 1],
         to: bytes[at + 2],
-        seconds: 256 * u16::from(bytes[at + 3]) + u16::from(bytes[at + 4]),
+        seconds: u16::from_be_bytes([bytes[at + 3], bytes[at + 4]]),
         points: bytes[at + 5],
         grade: bytes[at + 6],
     }
@@ -35,16 +34,9 @@ fn text_at(bytes: &[u8], at: usize) -> Option<(&[u8], usize)>
     ensures value { text_told result ≡ whole_text bytes.now at }
     ensures short { IfSome result (λ p. length p.0.now < 256) }
 {
-    let left = bytes.len() - at;
-    if left < 2 {
-        return None;
-    }
-    let len = usize::from(bytes[at + 1]);
-    if left < 2 + len {
-        return None;
-    }
+    let len = usize::from(*bytes.get(at + 1)?);
     let end = at + 2 + len;
-    Some((&bytes[at + 2..end], end))
+    Some((bytes.get(at + 2..end)?, end))
 }
 
 // The record of this kind at an offset, and the offset behind it; nothing where the file ends inside.
@@ -81,15 +73,11 @@ pub(crate) fn due_record(
     ensures value { due_told result ≡ due_record stations kind bytes.now at }
     ensures within { IfOk result (λ p. (at < p.1) × (p.1 ≤ length bytes.now)) }
 {
-    if at >= bytes.len() {
-        return Err(Refusal::CutShort);
-    }
-    if bytes[at] != mark(kind) {
+    let mark = *bytes.get(at).ok_or(Refusal::CutShort)?;
+    if mark != u8::from(kind) {
         return Err(Refusal::WrongKind);
     }
-    let Some((what, end)) = whole_record(bytes, at, kind) else {
-        return Err(Refusal::CutShort);
-    };
+    let (what, end) = whole_record(bytes, at, kind).ok_or(Refusal::CutShort)?;
     if fits(what, stations) {
         Ok((what, end))
     } else {
@@ -102,10 +90,7 @@ fn any_record(bytes: &[u8], at: usize) -> Option<(Record<'_>, usize)>
     ensures value { record_told result ≡ record_at bytes.now at }
     ensures short { IfSome result (λ p. Short (said p.0)) }
 {
-    if at >= bytes.len() {
-        return None;
-    }
-    let kind = kind_of(bytes[at])?;
+    let kind = Kind::try_from(*bytes.get(at)?).ok()?;
     whole_record(bytes, at, kind)
 }
 

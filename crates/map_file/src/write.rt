@@ -5,12 +5,12 @@ ghost use Rattle.map_format.specs.Views.{said};
 ghost use Rattle.map_file.specs.Writing.{heading_refusal, record_refusal, leg_refusal, write_answer, buffer_after, spliced, Short};
 
 use crate::fields::{leg_fits, name_fits, notice_fits};
-use crate::heading::{counts_fit, stations_fit};
-use crate::kind::mark;
+use crate::heading::counts_fit;
 use map_format::heading::Heading;
 use map_format::kind::Kind;
 use map_format::record::Record;
 use network::leg::Leg;
+use network::network::stations_fit;
 use network::refusal::Refusal;
 
 // Puts these bytes into a buffer from an offset on.
@@ -26,8 +26,7 @@ pub(crate) fn put_heading(heading: Heading, out: &mut [u8])
     requires { 8 ≤ length out.old }
     ensures { out.new ≡ spliced out.old 0 (encode_heading heading) }
 {
-    let high = (heading.legs / 256) as u8;
-    let low = (heading.legs % 256) as u8;
+    let [high, low] = heading.legs.to_be_bytes();
     let bytes = [b'L', b'P', b'N', 0, 1, heading.stations, high, low];
     put(&bytes, out, 0);
 }
@@ -36,10 +35,9 @@ fn put_leg(leg: Leg, out: &mut [u8], at: usize)
     requires { at + 7 ≤ length out.old }
     ensures { out.new ≡ spliced out.old at (encode (leg_item leg)) }
 {
-    let high = (leg.seconds / 256) as u8;
-    let low = (leg.seconds % 256) as u8;
+    let [high, low] = leg.seconds.to_be_bytes();
     let bytes = [
-        mark(Kind::Leg),
+        u8::from(Kind::Leg),
         leg.from,
         leg.to,
         high,
@@ -55,7 +53,7 @@ fn put_text(kind: Kind, text: &[u8], out: &mut [u8], at: usize)
     requires short { length text.now < 256 }
     ensures { out.new ≡ spliced out.old at (encode_text kind text.now) }
 {
-    let front = [mark(kind), text.len() as u8];
+    let front = [u8::from(kind), text.len() as u8];
     put(&front, out, at);
     put(text, out, at + 2);
 }

@@ -7,7 +7,7 @@ use Rattle.map_format.specs.declared.kind.Kind.{Kind}
 use Rattle.map_format.specs.declared.kind.Kind.TheVariants.{Notice as NoticeKind}
 use Rattle.map_format.specs.Format.{Item}
 use Rattle.map_format.specs.Reading.{Stretch, and_then, follow, end_of, due_record, run, notices}
-use Rattle.map_format.proofs.Records.{due_inv, whole_bounds}
+use Rattle.map_format.proofs.Records.{refused, due_inv, whole_bounds}
 
 end_with : (p : ℕ × Item) (r : Result Stretch Fault) → end_of (and_then r (λ q. Ok (p ∷ q.0, q.1))) ≡ end_of r
 end_with p (Ok q) = refl
@@ -16,18 +16,26 @@ end_with p (Err f) = refl
 pub end_follow : (at : ℕ) (r : Result (Item × ℕ) Refusal) (behind : ℕ → Result Stretch Fault) (p : Item × ℕ) → r ≡ Ok p → end_of (follow at r behind) ≡ end_of (behind p.1)
 end_follow at r behind p e = rw e (end_with (at, p.0) (behind p.1))
 
-pub end_stop : (at : ℕ) (r : Result (Item × ℕ) Refusal) (behind : ℕ → Result Stretch Fault) (why : Refusal) → r ≡ Err why → end_of (follow at r behind) ≡ Err (record { why = why; place = at })
-end_stop at r behind why e = rw e
+-- a run of one record, read back
+pub one_inv : (kind : Kind) (s : ℕ) (file : List ℕ) (at : ℕ) (r : Result (Item × ℕ) Refusal) (e : ℕ) → Ok e ≡ end_of (follow at r (run kind s file 0)) → (p : Item × ℕ) × (r ≡ Ok p) × (p.1 ≡ e)
+one_inv kind s file at (Ok p) e h = let is : p.1 ≡ e = cc in (p, refl, is)
+one_inv kind s file at (Err why) e h = absurd (refused (record { why = why; place = at }) e (sym h))
+
+pub one_stop : (kind : Kind) (s : ℕ) (file : List ℕ) (at : ℕ) (r : Result (Item × ℕ) Refusal) (behind : ℕ → Result Stretch Fault) (f : Fault) → Err f ≡ end_of (follow at r (run kind s file 0)) → end_of (follow at r behind) ≡ Err f
+one_stop kind s file at (Ok p) behind f h = absurd (refused f p.1 h)
+one_stop kind s file at (Err why) behind f h = sym h
 
 module _ (kind : Kind) (s : ℕ) (file : List ℕ) (count i at : ℕ) (more : i < count) where
   unrolled : end_of (run kind s file (count - i) at) ≡ end_of (follow at (due_record s kind file at) (run kind s file (count - (i + 1))))
   unrolled = let n : count - i ≡ suc (count - (i + 1)) = omega arith in ap (λ k. end_of (run kind s file k at)) n
 
-  pub run_more : (p : Item × ℕ) → due_record s kind file at ≡ Ok p → end_of (run kind s file (count - i) at) ≡ end_of (run kind s file (count - (i + 1)) p.1)
-  run_more p e = unrolled ∙ end_follow at (due_record s kind file at) (run kind s file (count - (i + 1))) p e
+  pub run_more : (e : ℕ) → Ok e ≡ end_of (run kind s file 1 at) → end_of (run kind s file (count - i) at) ≡ end_of (run kind s file (count - (i + 1)) e)
+  run_more e h =
+      let p = one_inv kind s file at (due_record s kind file at) e h in
+      unrolled ∙ end_follow at (due_record s kind file at) (run kind s file (count - (i + 1))) p.0 p.1 ∙ ap (λ k. end_of (run kind s file (count - (i + 1)) k)) p.2
 
-  pub run_stop : (why : Refusal) → due_record s kind file at ≡ Err why → end_of (run kind s file (count - i) at) ≡ Err (record { why = why; place = at })
-  run_stop why e = unrolled ∙ end_stop at (due_record s kind file at) (run kind s file (count - (i + 1))) why e
+  pub run_stop : (f : Fault) → Err f ≡ end_of (run kind s file 1 at) → end_of (run kind s file (count - i) at) ≡ Err f
+  run_stop f h = unrolled ∙ one_stop kind s file at (due_record s kind file at) (run kind s file (count - (i + 1))) f h
 
 -- ---- notices: a bound that is large enough does not matter
 
@@ -55,13 +63,18 @@ module _ (s : ℕ) (file : List ℕ) (at : ℕ) (more : at < length file) where
       let n : length file - at ≡ suc (length file - (at + 1)) = omega arith in
       ap (λ k. notices s file k at) n ∙ ap (λ (b : Bool). cond b (Ok ([], at)) (follow at (due_record s NoticeKind file at) (notices s file (length file - (at + 1))))) (lt-leb (length file) at more)
 
-  pub notices_more : (p : Item × ℕ) → due_record s NoticeKind file at ≡ Ok p → end_of (notices s file (length file - at) at) ≡ end_of (notices s file (length file - p.1) p.1)
-  notices_more p e =
-      let b = due_bounds s NoticeKind file at p e in
-      ap end_of opened ∙ end_follow at (due_record s NoticeKind file at) (notices s file (length file - (at + 1))) p e ∙ ap end_of (notices_bound s (length file - (at + 1)) (length file - p.1) file p.1 (omega arith) (omega arith))
+  pub notices_more : (e : ℕ) → Ok e ≡ end_of (run NoticeKind s file 1 at) → end_of (notices s file (length file - at) at) ≡ end_of (notices s file (length file - e) e)
+  notices_more e h =
+      let p = one_inv NoticeKind s file at (due_record s NoticeKind file at) e h in
+      let q = p.0 in
+      let b = due_bounds s NoticeKind file at q p.1 in
+      ap end_of opened
+      ∙ end_follow at (due_record s NoticeKind file at) (notices s file (length file - (at + 1))) q p.1
+      ∙ ap end_of (notices_bound s (length file - (at + 1)) (length file - q.1) file q.1 (omega (arith, b)) (omega arith))
+      ∙ ap (λ k. end_of (notices s file (length file - k) k)) p.2
 
-  pub notices_stop : (why : Refusal) → due_record s NoticeKind file at ≡ Err why → end_of (notices s file (length file - at) at) ≡ Err (record { why = why; place = at })
-  notices_stop why e = ap end_of opened ∙ end_stop at (due_record s NoticeKind file at) (notices s file (length file - (at + 1))) why e
+  pub notices_stop : (f : Fault) → Err f ≡ end_of (run NoticeKind s file 1 at) → end_of (notices s file (length file - at) at) ≡ Err f
+  notices_stop f h = ap end_of opened ∙ one_stop NoticeKind s file at (due_record s NoticeKind file at) (notices s file (length file - (at + 1))) f h
 
 pub notices_done : (s : ℕ) (file : List ℕ) (at : ℕ) → length file ≤ at → end_of (notices s file (length file - at) at) ≡ Ok at
 notices_done s file at h = ap end_of (notices_end s (length file - at) file at h)

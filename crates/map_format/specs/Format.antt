@@ -1,6 +1,9 @@
 -- The layout of a map file: the bytes of its heading and of each kind of record, and their ranges.
-use Rattle.std.specs.Prelude.{ℕ, ◌+◌, ◌*◌, ◌/◌, ◌%◌, ◌<◌, Bool, true, cond, not, ◌&&◌, List, [], ◌∷◌, length, take, drop, Some, None, Option, ◌==◌, nat_le, nat_lt, slice_index}
+use Rattle.std.specs.Prelude.{ℕ, ◌+◌, ◌*◌, ◌/◌, ◌%◌, ◌<◌, Bool, cond, not, ◌&&◌, List, [], ◌∷◌, length, take, drop, Some, None, Option, ◌==◌, nat_le, slice_index}
+use Rattle.std.specs.List.{list_all}
 use Rattle.network.specs.declared.leg.Leg.{Leg}
+use Rattle.network.specs.Ranges.{in_range}
+pub use Rattle.network.specs.Ranges.{stations_fit}
 use Rattle.map_format.specs.declared.heading.Heading.{Heading}
 use Rattle.map_format.specs.declared.kind.Kind.{Kind}
 use Rattle.map_format.specs.declared.kind.Kind.TheVariants.{Station as StationKind, Leg as LegKind, Notice as NoticeKind}
@@ -41,9 +44,6 @@ kind_of b = cond (b == 0x53) (Some StationKind) (cond (b == 0x4C) (Some LegKind)
 
 -- ---- the ranges
 
-abbrev pub stations_fit : ℕ → Bool
-stations_fit s = nat_le 2 s && nat_le s 64
-
 abbrev pub counts_fit : Heading → Bool
 counts_fit h = stations_fit h.stations && nat_le h.legs 512
 
@@ -52,14 +52,11 @@ printable_byte b = nat_le 0x20 b && nat_le b 0x7E
 
 -- every byte is a printable one
 abbrev pub printable : List ℕ → Bool
-printable [] = true
-printable (b ∷ bs) = printable_byte b && printable bs
+printable text = list_all printable_byte text
 
--- a leg of a map with s stations
+-- a leg of a map with s stations: in range in such a network, and not from a station to itself
 abbrev pub leg_fits : ℕ → Leg → Bool
-leg_fits s l =
-    (nat_lt l.from s && nat_lt l.to s && not (l.from == l.to))
-    && (nat_le 1 l.seconds && nat_le l.seconds 43200 && nat_le l.points 99 && nat_le l.grade 3)
+leg_fits s l = not (l.from == l.to) && in_range s l
 
 abbrev pub name_fits : List ℕ → Bool
 name_fits name = (nat_le 1 (length name) && nat_le (length name) 20) && printable name

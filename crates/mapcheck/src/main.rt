@@ -95,18 +95,21 @@ fn print_map<W: Write>(out: &mut W, map: &Map<'_>) -> io::Result<()> {
     Ok(())
 }
 
-// Writes the map again into a buffer: how many bytes that gives, and where they differ from the file.
-fn write_again(
-    map: &Map<'_>,
-    file: &[u8],
-    copy: &mut [u8],
-) -> Result<(usize, Option<usize>), Refusal>
-    ensures { IfOk result (λ p. (p.0 ≡ length (encode_map map.now)) × Compared (encode_map map.now) file.now p.1) }
+// A map written again: how many bytes that gives, and where they differ from the file.
+#[derive(Clone, Copy)]
+struct Rewritten {
+    size: usize,
+    difference: Option<usize>,
+}
+
+// Writes the map again into a buffer.
+fn write_again(map: &Map<'_>, file: &[u8], copy: &mut [u8]) -> Result<Rewritten, Refusal>
+    ensures size { IfOk result (λ again. again.size ≡ length (encode_map map.now)) }
+    ensures compared { IfOk result (λ again. Compared (encode_map map.now) file.now again.difference) }
 {
-    match map.rewrite(copy) {
-        Ok(size) => Ok((size, first_difference(&copy[0..size], file))),
-        Err(why) => Err(why),
-    }
+    let size = map.rewrite(copy)?;
+    let difference = first_difference(&copy[..size], file);
+    Ok(Rewritten { size, difference })
 }
 
 // Says whether the map, written again, is the file.
@@ -118,8 +121,10 @@ fn print_rewritten<W: Write>(
 ) -> io::Result<()> {
     let mut copy = vec![in heap; 0u8; LIMIT]?;
     match write_again(map, file, &mut copy) {
-        Ok((size, None)) => writeln!(out, "written again: {size} bytes, the same"),
-        Ok((size, Some(place))) => writeln!(out, "written again: {size} bytes, another at {place}"),
+        Ok(Rewritten { size, difference }) => match difference {
+            None => writeln!(out, "written again: {size} bytes, the same"),
+            Some(place) => writeln!(out, "written again: {size} bytes, another at {place}"),
+        },
         Err(why) => writeln!(out, "not written again: {why}"),
     }
 }

@@ -1,16 +1,9 @@
-use Rattle.std.proofs.Common.{sym, ap, ◌∙◌}
-use Rattle.std.proofs.lemmas.List.{drop_all}
-use Rattle.map_format.specs.Format.{printable}
-use Rattle.map_file.proofs.Prints.{printable_more, printable_less}
+use Rattle.std.proofs.Common.{rules, tests}
+use Rattle.std.proofs.lemmas.Iterator.{YieldsList-from_slice}
+use Rattle.std.proofs.lemmas.Iterator.Search.{all_from_yields_List}
+use Rattle.map_format.specs.Format.{printable_byte}
 use Rattle.map_file.proofs.fields.printable.Goals as goal
 
-pub returns-then-not-is_printable : goal.returns-then-not-is_printable
-returns-then-not-is_printable c =
-    sym (printable_less _ _ c.loop-byte-test.true (sym c.if-not-is_printable.ensures)) ∙ c.loop-byte.invariant
-
 pub returns : goal.returns
-returns c = sym (ap printable (drop_all _ _ c.loop-byte-test.false)) ∙ c.loop-byte.invariant
-
-pub loop-byte-preserved : goal.loop-byte-preserved
-loop-byte-preserved c =
-    sym (printable_more _ _ c.loop-byte-test.true (sym c.if-not-is_printable.ensures)) ∙ c.loop-byte.invariant
+returns c =
+    all_from_yields_List printable_byte _ _ _ c.all.ensures.ran (YieldsList-from_slice c.args.text.now cc) (λ x b q k. search (rules, tests))

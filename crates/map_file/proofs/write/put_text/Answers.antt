@@ -8,8 +8,8 @@ returns c =
     let at = c.args.at in
     let out = c.args.out.now in
     let text = c.args.text.now in
-    let mark = c.mark.result in
+    let mark = c.from.result in
     c.put-2.ensures
     ∙ ap (λ (l : List ℕ). spliced l (at + 2) text) c.put.ensures
     ∙ splice_behind out at (at + 2) (mark ∷ length text ∷ []) text refl (omega (arith, c.requires.fits))
-    ∙ ap (λ b. spliced out at (b ∷ length text ∷ text)) c.mark.ensures
+    ∙ ap (λ b. spliced out at (b ∷ length text ∷ text)) c.from.ensures

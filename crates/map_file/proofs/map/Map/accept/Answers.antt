@@ -1,4 +1,4 @@
-use Rattle.std.proofs.Common.{sym, refl, ap, ◌∙◌}
+use Rattle.std.proofs.Common.{sym, refl, ap, ◌∙◌, rules}
 use Rattle.map_format.specs.declared.kind.Kind.TheVariants.{Station as StationKind}
 use Rattle.map_file.specs.declared.map.Map.{Map}
 use Rattle.map_format.specs.Reading.{end_of, run}
@@ -7,13 +7,14 @@ use Rattle.map_file.proofs.map.Map.accept.Goals as goal
 
 pub returns : goal.returns
 returns c =
-    let m : Map = record { bytes = c.args.bytes; heading = c.in-Ok.heading; legs_at = c.in_ok-legs_at.legs_at; notices_at = c.in_ok-notices_at.notices_at } in
-    let stations = c.in-Ok.heading.stations in
-    let t : Tested m c.in_ok-check_notices.field-0 = record {
-      heading_read = c.in-Ok.ensures;
-      stations_end = c.in_ok-legs_at.ensures ∙ ap (λ k. end_of (run StationKind stations c.args.bytes.now k 8)) c.from.ensures;
-      legs_end = c.in_ok-notices_at.ensures;
-      notices_end = c.in_ok-check_notices.ensures;
+    let heading = c.in_ok-heading.heading in
+    let m : Map = record { bytes = c.args.bytes; heading = heading; legs_at = c.pass_run.new.self.at; notices_at = c.pass_run-2.new.self.at } in
+    let same = c.pass_run.ensures.same in
+    let t : Tested m c.pass_notices.new.self.at = record {
+      heading_read = search rules;
+      stations_end = c.in_ok-pass_run.ensures.end ∙ ap (λ k. end_of (run StationKind heading.stations c.args.bytes.now k 8)) c.from.ensures;
+      legs_end = rw same at c.in_ok-pass_run-2.ensures.end;
+      notices_end = rw (c.pass_run-2.ensures.same ∙ same) at c.in_ok-pass_notices.ensures;
     } in
     record {
       verdict = sym (accepted m _ t);
