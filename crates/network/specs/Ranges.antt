@@ -1,8 +1,12 @@
--- The ranges of a leg as a test.
+-- The ranges of a station count and of a leg as tests.
 use Rattle.std.specs.Prelude.{◌≡◌, ℕ, Bool, true, ◌&&◌, nat_le, nat_lt}
 use Rattle.std.proofs.lemmas.Bool.{and_parts, leb-true, ltb-true}
 use Rattle.network.specs.Meaning.{LegFits}
 use Rattle.network.specs.declared.leg.Leg.{Leg}
+
+-- whether a network may have so many stations
+abbrev pub stations_fit : ℕ → Bool
+stations_fit s = nat_le 2 s && nat_le s 64
 
 -- whether a leg is in range in a network of s stations
 abbrev pub in_range : ℕ → Leg → Bool

@@ -1,9 +1,10 @@
-// The eighteen refusals. docs/REFUSALS.md says who brings each on, and when.
+// The refusals, with their numbers and reasons.
 ghost use Rattle.std.specs.Prelude.{◌≡◌, Some};
 ghost use Rattle.network.specs.Refusals.{number_of, reason_of};
 
 use std::fmt;
 
+/// The eighteen refusals. docs/REFUSALS.md says who brings each on, and when.
 #[derive(Clone, Copy, Debug, PartialEq, Eq)]
 pub enum Refusal {
     CutShort = 1,
@@ -27,14 +28,14 @@ pub enum Refusal {
 }
 
 impl Refusal {
-    // The number that slips, programs and the gate's host show.
+    /// The number that slips, programs and the gate's host show.
     pub fn number(self) -> u8
         ensures { result ≡ number_of self }
     {
         self as u8
     }
 
-    // The reason in a few words.
+    /// The reason in a few words.
     pub fn reason(self) -> &'static str
         ensures { result.now ≡ reason_of self }
     {
