@@ -1,17 +1,14 @@
 -- A table of legs as a network.
-use Rattle.std.specs.Prelude.{◌≡◌, ℕ, ◌≤◌, min, Bool, cond, ◌&&◌, List, length, Some, None, Option, nat_le, nat_lt, slice_index_or}
+use Rattle.std.specs.Prelude.{◌≡◌, ℕ, ◌≤◌, min, cond, List, length, Some, None, Option, nat_le, nat_lt, slice_index_or}
 use Rattle.std.proofs.Common.{subst, arith}
 use Rattle.std.proofs.lemmas.Bool.{and_parts, leb-true, le-ltb, cond-false, cond_both}
 use Rattle.network.specs.Meaning.{Meaning, Sound, LegFits}
-use Rattle.network.specs.Ranges.{in_range, in_range_fits}
+use Rattle.network.specs.Ranges.{stations_fit, in_range, in_range_fits}
 use Rattle.network.specs.Shown.{held}
 use Rattle.network.specs.declared.leg.Leg.{Leg}
 
 abbrev pub no_leg : Leg
 no_leg = record { from = 0; to = 0; seconds = 0; points = 0; grade = 0 }
-
-abbrev pub stations_fit : ℕ → Bool
-stations_fit n = nat_le 2 n && nat_le n 64
 
 abbrev pub stations_of : ℕ → ℕ
 stations_of n = cond (stations_fit n) n 2

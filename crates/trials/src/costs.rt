@@ -21,6 +21,10 @@ const SECOND: Leg = Leg {
     grade: 3,
 };
 
+fn fare(points: u32, seconds: u32) -> Fare {
+    Fare { points, seconds }
+}
+
 // Costs are added, and the smaller sum comes first; a sum past all bounds still has an answer.
 #[test]
 fn by_seconds(rt: HostRuntime) {
@@ -48,44 +52,19 @@ fn by_points(rt: HostRuntime) {
     let (a, b) = (model.of_leg(FIRST), model.of_leg(SECOND));
     assert_eq!(rt;
         (<PointsThenSeconds as CostModel>::mark_byte(), model.zero()),
-        (
-            b'P',
-            Fare {
-                points: 0,
-                seconds: 0,
-            },
-        )
+        (b'P', fare(0, 0))
     );
-    assert_eq!(rt;
-        (a, model.join(a, b)),
-        (
-            Fare {
-                points: 2,
-                seconds: 300,
-            },
-            Fare {
-                points: 101,
-                seconds: 43_500,
-            },
-        )
-    );
+    assert_eq!(rt; (a, model.join(a, b)), (fare(2, 300), fare(101, 43_500)));
     let cases = [
-        (1, 900, 2, 100, true),
-        (2, 100, 1, 900, false),
-        (2, 100, 2, 900, true),
-        (2, 900, 2, 100, false),
-        (2, 100, 2, 100, false),
+        (fare(1, 900), fare(2, 100), true),
+        (fare(2, 100), fare(1, 900), false),
+        (fare(2, 100), fare(2, 900), true),
+        (fare(2, 900), fare(2, 100), false),
+        (fare(2, 100), fare(2, 100), false),
     ];
-    for (points, seconds, other_points, other_seconds, expected) in cases {
-        let other = Fare {
-            points: other_points,
-            seconds: other_seconds,
-        };
-        assert_eq!(rt; model.before(Fare { points, seconds }, other), expected);
+    for (one, other, expected) in cases {
+        assert_eq!(rt; model.before(one, other), expected);
     }
-    let most = Fare {
-        points: u32::MAX,
-        seconds: u32::MAX,
-    };
+    let most = fare(u32::MAX, u32::MAX);
     let _ = model.join(most, most);
 }

@@ -7,3 +7,5 @@ mod costs;
 mod map_files;
 #[cfg(test)]
 mod networks;
+#[cfg(test)]
+mod refusals;

@@ -4,9 +4,11 @@ use map_file::map::Map;
 use network::leg::Leg;
 use network::network::Network;
 use network::refusal::Refusal;
+use network::refusal::Refusal::{OverlayOutOfRange, WrongMatrixEntry, WrongMatrixSize};
 use overlay::closures::Closures;
 use overlay::grade_cap::GradeCap;
 use overlay::waits::Waits;
+use std::array;
 use std::process::Abort;
 use std::test::Fail;
 
@@ -17,13 +19,7 @@ L\x02\x03\x00\xC8\x01\x00L\x01\x02\x00\x64\x00\x00L\x02\x01\x00\x64\x00\x00";
 
 // The seconds of the first nine leg numbers, 0 where there is nothing.
 fn seconds<N: Network>(net: &N) -> [u16; 9] {
-    let mut row = [0; 9];
-    for number in 0..9u16 {
-        if let Some(leg) = net.leg_at(number) {
-            row[usize::from(number)] = leg.seconds;
-        }
-    }
-    row
+    array::from_fn(|number| net.leg_at(number as u16).map_or(0, |leg| leg.seconds))
 }
 
 // The map shows its records, and nothing at and past its count.
@@ -47,12 +43,13 @@ fn map_shows(rt: HostRuntime) -> Result<(), Fail> {
     Ok(())
 }
 
-// Marks at both sides of the last number, and past the map's count: kept, counted and read back, and altering no leg.
+// Marks at both sides of the last number, and past the map's count: kept, counted and read back, and altering no leg. Each
+// case shuts or opens a number, and says what is read back, how many are shut, and the seconds of leg 4.
 #[test]
 fn marks(rt: HostRuntime) -> Result<(), Fail> {
     let file = *MOUNTAIN;
     let mut shut = Closures::new(Map::accept(&file)?);
-    let refused = Err(Refusal::OverlayOutOfRange);
+    let refused = Err(OverlayOutOfRange);
     let cases = [
         (true, 511, Ok(true), 1, 100),
         (true, 6, Ok(true), 2, 100),
@@ -63,16 +60,16 @@ fn marks(rt: HostRuntime) -> Result<(), Fail> {
         (false, 4, Ok(false), 2, 100),
         (false, 5, Ok(false), 2, 100),
     ];
-    for (shuts, number, held, count, fifth) in cases {
+    for (shuts, number, held, count, leg_4) in cases {
         let answer = if shuts {
             shut.shut(number)
         } else {
             shut.open(number)
         };
-        assert_eq!(rt; answer.is_ok(), held.is_ok());
+        assert_eq!(rt; answer, held.map(|_| ()));
         assert_eq!(rt; shut.is_shut(number), held);
         assert_eq!(rt; shut.count(), count);
-        assert_eq!(rt; seconds(&shut), [300, 500, 400, 200, fifth, 100, 0, 0, 0]);
+        assert_eq!(rt; seconds(&shut), [300, 500, 400, 200, leg_4, 100, 0, 0, 0]);
     }
     assert_eq!(rt;
         seconds(&shut.into_below()),
@@ -91,7 +88,7 @@ fn caps_and_waits(rt: HostRuntime) -> Result<(), Fail> {
         (0, Ok(()), 0, 0),
         (1, Ok(()), 1, 500),
         (3, Ok(()), 3, 500),
-        (4, Err(Refusal::OverlayOutOfRange), 3, 500),
+        (4, Err(OverlayOutOfRange), 3, 500),
     ] {
         assert_eq!(rt; cap.set_ceiling(ceiling), answer);
         assert_eq!(rt; cap.ceiling(), held);
@@ -104,7 +101,7 @@ fn caps_and_waits(rt: HostRuntime) -> Result<(), Fail> {
         (0, 65_535, Ok(()), 43_200),
         (0, 5, Ok(()), 305),
         (511, 7, Ok(()), 305),
-        (512, 7, Err(Refusal::OverlayOutOfRange), 305),
+        (512, 7, Err(OverlayOutOfRange), 305),
     ] {
         assert_eq!(rt; waits.set_wait(number, wait), answer);
         assert_eq!(rt; seconds(&waits), [first, 500, 400, 200, 100, 100, 0, 0, 0]);
@@ -113,16 +110,14 @@ fn caps_and_waits(rt: HostRuntime) -> Result<(), Fail> {
         (waits.wait(0), waits.wait(511), waits.wait(1)),
         (Ok(5), Ok(7), Ok(0))
     );
-    assert_eq!(rt; waits.wait(512), Err(Refusal::OverlayOutOfRange));
+    assert_eq!(rt; waits.wait(512), Err(OverlayOutOfRange));
     Ok(())
 }
 
-// The refusal's number; 0 where the matrix is accepted.
-fn verdict(stops: u8, minutes: &[u16]) -> u8 {
-    match BusMatrix::accept(stops, minutes) {
-        Ok(_) => 0,
-        Err(why) => why.number(),
-    }
+// Whether the matrix is accepted, and else why not.
+fn verdict(stops: u8, minutes: &[u16]) -> Result<(), Refusal> {
+    BusMatrix::accept(stops, minutes)?;
+    Ok(())
 }
 
 // Counts of stops and of entries at both sides of their bounds.
@@ -130,45 +125,45 @@ fn verdict(stops: u8, minutes: &[u16]) -> u8 {
 fn matrix_sizes(rt: HostRuntime) {
     let minutes = [0; 530];
     let cases = [
-        (0, 0, 7),
-        (1, 1, 7),
-        (2, 3, 7),
-        (2, 4, 0),
-        (2, 5, 7),
-        (22, 483, 7),
-        (22, 484, 0),
-        (22, 485, 7),
-        (23, 529, 7),
+        (0, 0, Err(WrongMatrixSize)),
+        (1, 1, Err(WrongMatrixSize)),
+        (2, 3, Err(WrongMatrixSize)),
+        (2, 4, Ok(())),
+        (2, 5, Err(WrongMatrixSize)),
+        (22, 483, Err(WrongMatrixSize)),
+        (22, 484, Ok(())),
+        (22, 485, Err(WrongMatrixSize)),
+        (23, 529, Err(WrongMatrixSize)),
     ];
     for (stops, entries, expected) in cases {
         assert!(rt; entries <= 530);
-        assert_eq!(rt; verdict(stops, &minutes[0..entries]), expected);
+        assert_eq!(rt; verdict(stops, &minutes[..entries]), expected);
     }
 }
+
+const RIDES: [u16; 9] = [0, 10, 20, 30, 0, 0, 5, 720, 0];
 
 // One entry of nine changed, among three stops; a wrong size is told before a wrong entry.
 #[test]
 fn matrix_entries(rt: HostRuntime) {
     let cases = [
-        (0, 0, 0),
-        (0, 1, 8),
-        (1, 720, 0),
-        (1, 721, 8),
-        (4, 1, 8),
-        (7, 65_535, 8),
-        (8, 1, 8),
-        (8, 0, 0),
+        (0, 0, Ok(())),
+        (0, 1, Err(WrongMatrixEntry)),
+        (1, 720, Ok(())),
+        (1, 721, Err(WrongMatrixEntry)),
+        (4, 1, Err(WrongMatrixEntry)),
+        (7, 65_535, Err(WrongMatrixEntry)),
+        (8, 1, Err(WrongMatrixEntry)),
+        (8, 0, Ok(())),
     ];
     for (place, entry, expected) in cases {
-        let mut minutes = [0, 10, 20, 30, 0, 0, 5, 720, 0];
+        let mut minutes = RIDES;
         assert!(rt; place < 9);
         minutes[place] = entry;
         assert_eq!(rt; verdict(3, &minutes), expected);
-        assert_eq!(rt; verdict(2, &minutes), 7);
+        assert_eq!(rt; verdict(2, &minutes), Err(WrongMatrixSize));
     }
 }
-
-const RIDES: [u16; 9] = [0, 10, 20, 30, 0, 0, 5, 720, 0];
 
 // Row a and column b is the ride from a to b, sixty seconds a minute.
 #[test]
