@@ -1,5 +1,5 @@
 -- Costs that are points and then seconds.
-use Rattle.std.specs.Prelude.{◌≡◌, ◌+◌, ◌*◌, ◌≤◌, Bool, ◌&&◌, ◌||◌, ◌==◌, nat_lt}
+use Rattle.std.specs.Prelude.{◌≡◌, ◌+◌, ◌*◌, ◌<◌, ◌≤◌, Bool, true, false, ◌&&◌, ◌||◌, ◌⊎◌, ◌==◌, nat_lt}
 use Rattle.std.proofs.Common.{arith}
 use Rattle.std.proofs.lemmas.Bool.Decides.{nat_tests}
 use Rattle.cost.specs.declared.fare.Fare.{Fare}
@@ -21,6 +21,29 @@ points = record {
   before = cheaper;
   stands = λ c n. (c.points ≤ 99 * n) × (c.seconds ≤ 43200 * n);
 }
+
+-- ---- what the order says
+
+abbrev pub Cheaper : Fare → Fare → Type 0
+Cheaper a b = (a.points < b.points) ⊎ ((a.points ≡ b.points) × (a.seconds < b.seconds))
+
+pub told : (a b : Fare) → cheaper a b ≡ true → Cheaper a b
+told a b e = grind (arith, nat_tests)
+
+pub shown : (a b : Fare) → Cheaper a b → cheaper a b ≡ true
+shown a b h = grind (arith, nat_tests)
+
+-- not before: more points, or as many and no fewer seconds
+abbrev pub NoCheaper : Fare → Fare → Type 0
+NoCheaper a b = (b.points ≤ a.points) × (a.points ≡ b.points → b.seconds ≤ a.seconds)
+
+pub not_shown : (a b : Fare) → NoCheaper a b → cheaper a b ≡ false
+not_shown a b h = grind (arith, nat_tests)
+
+pub not_told : (a b : Fare) → cheaper a b ≡ false → NoCheaper a b
+not_told a b e = (grind (arith, nat_tests), λ same. grind (arith, nat_tests))
+
+-- ---- the laws
 
 same_fare : (a b : Fare) → a.points ≡ b.points → a.seconds ≡ b.seconds → a ≡ b
 same_fare a b p s = λ i. record { points = p i; seconds = s i }

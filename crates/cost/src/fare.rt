@@ -1,5 +1,7 @@
-// What a route takes from a points card, and how long it takes.
-/// Ordered by the points, and at equal points by the seconds.
+// What routes cost in points and in seconds.
+
+/// What a route takes from a points card, and how long it takes. Fewer points come first, and at equal points fewer
+/// seconds.
 #[derive(Clone, Copy, Debug, PartialEq, Eq, PartialOrd, Ord, Default)]
 pub struct Fare {
     pub points: u32,
