@@ -1,6 +1,6 @@
 -- Costs that are points and then seconds.
 use Rattle.std.specs.Prelude.{◌≡◌, ◌+◌, ◌*◌, ◌<◌, ◌≤◌, Bool, true, false, ◌&&◌, ◌||◌, ◌⊎◌, ◌==◌, nat_lt}
-use Rattle.std.proofs.Common.{arith}
+use Rattle.std.proofs.Common.{sym, arith}
 use Rattle.std.proofs.lemmas.Bool.Decides.{nat_tests}
 use Rattle.cost.specs.declared.fare.Fare.{Fare}
 use Rattle.cost.specs.Costs.{Costs, Laws}
@@ -43,10 +43,28 @@ not_shown a b h = grind (arith, nat_tests)
 pub not_told : (a b : Fare) → cheaper a b ≡ false → NoCheaper a b
 not_told a b e = (grind (arith, nat_tests), λ same. grind (arith, nat_tests))
 
+carried : (a b c : Fare) → Cheaper a b → Cheaper b c → Cheaper a c
+carried a b c h g = grind (arith, nat_tests)
+
+-- joined with the same from either side
+right : (a b c : Fare) → Cheaper a b → Cheaper (sum a c) (sum b c)
+right a b c h = grind (arith, nat_tests)
+
+left : (a b c : Fare) → Cheaper a b → Cheaper (sum c a) (sum c b)
+left a b c h = grind (arith, nat_tests)
+
+one : (a b : Fare) → Cheaper a b → NoCheaper b a
+one a b h = (grind (arith, nat_tests), λ same. grind (arith, nat_tests))
+
 -- ---- the laws
 
 same_fare : (a b : Fare) → a.points ≡ b.points → a.seconds ≡ b.seconds → a ≡ b
 same_fare a b p s = λ i. record { points = p i; seconds = s i }
+
+tied : (a b : Fare) → NoCheaper a b → NoCheaper b a → a ≡ b
+tied a b h g =
+    let p : a.points ≡ b.points = omega (arith, h.0, g.0) in
+    same_fare a b p (omega (arith, h.1 p, g.1 (sym p)))
 
 pub points_laws : Laws points
 points_laws = record {
