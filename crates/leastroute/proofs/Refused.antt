@@ -1,5 +1,5 @@
 -- A search that is refused, and the ride that is refused for it.
-use Rattle.std.proofs.Common.{◌≡◌, ℕ, ◌≤◌, Bool, cond, List, Some, None, Err, Option, refl, ap, ◌∙◌, subst}
+use Rattle.std.proofs.Common.{◌≡◌, ℕ, ◌≤◌, Bool, cond, List, length, Some, None, Err, Option, refl, ap, ◌∙◌, subst}
 use Rattle.std.specs.Option.{option_or}
 use Rattle.std.proofs.lemmas.Bool.{le-ltb}
 use Rattle.cost.specs.Costs.{Costs}
@@ -8,7 +8,9 @@ use Rattle.network.specs.declared.refusal.Refusal.{Refusal}
 use Rattle.network.specs.declared.refusal.Refusal.TheVariants.{ShortWorkspace}
 use Rattle.route.specs.Routes.{Bars, no_bars}
 use Rattle.search.specs.Answers.{Searched, refused_first}
+use Rattle.search_types.specs.Bars.{bars_of}
 use Rattle.search_types.specs.Ends.{ends_refusal}
+use Rattle.search_types.specs.declared.bars.Bars.{Bars as Barred}
 use Rattle.search_types.specs.declared.entry.Entry.{Entry}
 use Rattle.search_types.specs.declared.leg_list.LegList.{LegList}
 use Rattle.leastroute.specs.Rides.{Ridden, RiddenIf}
@@ -27,7 +29,7 @@ module _ {C : Type 0} (k : Costs C) (m : Meaning) (start goal : ℕ) (why : Refu
   told (Some other) searched = let e = searched.0 in cc
   told None searched = (searched.0.0, searched.0.2)
 
-  pub refused_ride : (b : Bars) → b ≡ no_bars → (entries : ℕ) → m.stations ≤ entries → Searched k m b start goal (refused_first m.stations start goal entries) (Err why) was is row row' → Ridden k m start goal (Err why)
-  refused_ride b free entries room searched =
-      let unbarred = subst (λ (x : Bars). Searched k m x start goal (refused_first m.stations start goal entries) (Err why) was is row row') free searched in
-      told (ends_refusal m.stations start goal) (subst (λ (o : Option Refusal). Searched k m no_bars start goal o (Err why) was is row row') (ends_only entries room) unbarred)
+  pub refused_ride : (b : Barred) → bars_of b ≡ no_bars → m.stations ≤ length row → Searched k m (bars_of b) start goal (refused_first m.stations start goal (length row)) (Err why) was is row row' → Ridden k m start goal (Err why)
+  refused_ride b free room searched =
+      let unbarred = subst (λ (x : Bars). Searched k m x start goal (refused_first m.stations start goal (length row)) (Err why) was is row row') free searched in
+      told (ends_refusal m.stations start goal) (subst (λ (o : Option Refusal). Searched k m no_bars start goal o (Err why) was is row row') (ends_only (length row) room) unbarred)

@@ -8,27 +8,15 @@ mod rides;
 mod totals;
 
 use answer::answer;
-use ride::Ride;
 use std::io;
 use std::io::{BufWriter, Read, Write};
 
 // The longest input that is looked at.
 const LIMIT: usize = 65_536;
 
-// One line for a ride: what it takes, and its legs.
-fn print_ride<W: Write>(out: &mut W, ride: &Ride) -> io::Result<()> {
-    let seconds = ride.fare.seconds;
-    let points = ride.fare.points;
-    write!(out, "{seconds} s, {points} points: legs")?;
-    for leg in ride.legs.legs() {
-        write!(out, " {leg}")?;
-    }
-    writeln!(out)
-}
-
 fn print_answer<W: Write>(out: &mut W, input: &[u8]) -> io::Result<()> {
     match answer(input) {
-        Ok(ride) => print_ride(out, &ride),
+        Ok(ride) => writeln!(out, "{ride}"),
         Err(why) => {
             let number = why.number();
             writeln!(out, "refused {number}: {why}")
