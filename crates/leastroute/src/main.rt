@@ -17,17 +17,14 @@ const LIMIT: usize = 65_536;
 fn print_answer<W: Write>(out: &mut W, input: &[u8]) -> io::Result<()> {
     match answer(input) {
         Ok(ride) => writeln!(out, "{ride}"),
-        Err(why) => {
-            let number = why.number();
-            writeln!(out, "refused {number}: {why}")
-        }
+        Err(why) => writeln!(out, "refused {}: {why}", why.number()),
     }
 }
 
 fn main(rt: HostRuntime) -> io::Result<()> {
     let mut input = Vec::new(rt.alloc());
     // one byte more than is looked at tells a longer input
-    rt.stdin().take(65_537).read_to_end(&mut input)?;
+    rt.stdin().take(LIMIT as u64 + 1).read_to_end(&mut input)?;
     let mut out = BufWriter::new(rt.alloc(), rt.stdout())?;
     if input.len() > LIMIT {
         writeln!(out, "too long")?;
