@@ -16,8 +16,7 @@ use Rattle.leastroute.specs.Rides.{Ridden, RiddenIf}
 module _ {C : Type 0} (k : Costs C) (m : Meaning) (start goal : ℕ) (why : Refusal) (was is : LegList) (row row' : List (Entry C)) where
   -- with room for every station, only the ends can be refused
   ends_only : (entries : ℕ) → m.stations ≤ entries → refused_first m.stations start goal entries ≡ ends_refusal m.stations start goal
-  ends_only entries room =
-      grind (arith, nat_tests)
+  ends_only entries room = grind (arith, nat_tests)
 
   told : (o : Option Refusal) → Searched k m no_bars start goal o (Err why) was is row row' → RiddenIf k m start goal o (Err why)
   told (Some other) searched = let e = searched.0 in cc
