@@ -7,12 +7,13 @@ use Rattle.network.specs.Meaning.{Meaning}
 use Rattle.route.specs.Routes.{leg_cost}
 use Rattle.leastroute.specs.Fares.{fare_of}
 
--- a part of a fare that adds up, as the points or the seconds
-module _ (part : Fare → ℕ) (none : part points.zero ≡ 0) (adds : (a b : Fare) → part (sum a b) ≡ part a + part b) (m : Meaning) where
-  push : (legs : List ℕ) (n : ℕ) → part (fare_of m (legs ++ (n ∷ []))) ≡ part (fare_of m legs) + part (leg_cost points (m.at n))
-  push [] n = omega (arith, adds (leg_cost points (m.at n)) points.zero, none)
-  push (x ∷ legs) n =
-      omega (arith, push legs n, adds (leg_cost points (m.at x)) (fare_of m legs), adds (leg_cost points (m.at x)) (fare_of m (legs ++ (n ∷ []))))
+pub same_fare : (a b : Fare) → a.points ≡ b.points → a.seconds ≡ b.seconds → a ≡ b
+same_fare a b p s = λ i. record { points = p i; seconds = s i }
 
-  pub part_more : (legs : List ℕ) (i : ℕ) → i < length legs → part (fare_of m (take (i + 1) legs)) ≡ part (fare_of m (take i legs)) + part (leg_cost points (m.at (get_or legs i 0)))
-  part_more legs i h = ap (λ (l : List ℕ). part (fare_of m l)) (take_more legs i 0 h) ∙ push (take i legs) (get_or legs i 0)
+module _ (m : Meaning) where
+  push : (legs : List ℕ) (n : ℕ) → fare_of m (legs ++ n ∷ []) ≡ sum (fare_of m legs) (leg_cost points (m.at n))
+  push [] n = same_fare _ _ (omega arith) (omega arith)
+  push (x ∷ legs) n = same_fare _ _ (omega (arith, ap (λ f. f.points) (push legs n))) (omega (arith, ap (λ f. f.seconds) (push legs n)))
+
+  pub fare_more : (legs : List ℕ) (i : ℕ) → i < length legs → fare_of m (take (i + 1) legs) ≡ sum (fare_of m (take i legs)) (leg_cost points (m.at (get_or legs i 0)))
+  fare_more legs i h = ap (fare_of m) (take_more legs i 0 h) ∙ push (take i legs) (get_or legs i 0)

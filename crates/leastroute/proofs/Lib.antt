@@ -1,4 +1,3 @@
 mod Adds
 mod Refused
-mod Requests
 mod Shows

@@ -7,26 +7,27 @@ use crate::ride::Ride;
 use crate::rides::ranked_ride;
 use map_file::map::Map;
 use network::refusal::Refusal;
+use search_types::ends::Ends;
 
 // The least ride on the map in a file.
-fn ride_on(file: &[u8], ranking: Ranking, start: u8, goal: u8) -> Result<Ride, Refusal>
-    ensures { OnMap ranking (verdict file.now) start goal result }
+fn ride_on(file: &[u8], ranking: Ranking, ends: Ends) -> Result<Ride, Refusal>
+    ensures { OnMap ranking (verdict file.now) ends.start ends.goal result }
 {
-    match Map::accept(file) {
-        Ok(map) => ranked_ride(&map, ranking, start, goal),
-        Err(fault) => Err(fault.why),
-    }
+    let map = Map::accept(file).map_err(|fault| fault.why)?;
+    ranked_ride(&map, ranking, ends)
 }
 
-// A request is the start, the goal, a count that says nothing here, the letter of a ranking, and a map file.
+/// A request is the start, the goal, a count that says nothing here, the letter of a ranking, and a map file.
 pub fn answer(input: &[u8]) -> Result<Ride, Refusal>
     ensures { Answered input.now result }
 {
     let [start, goal, _, letter, file @ ..] = input else {
         return Err(Refusal::CutShort);
     };
-    match Ranking::of_letter(*letter) {
-        Some(ranking) => ride_on(file, ranking, *start, *goal),
-        None => Err(Refusal::UnknownLetter),
-    }
+    let ranking = Ranking::try_from(*letter)?;
+    let ends = Ends {
+        start: *start,
+        goal: *goal,
+    };
+    ride_on(file, ranking, ends)
 }

@@ -8,38 +8,23 @@ mod rides;
 mod totals;
 
 use answer::answer;
-use ride::Ride;
 use std::io;
 use std::io::{BufWriter, Read, Write};
 
 // The longest input that is looked at.
 const LIMIT: usize = 65_536;
 
-// One line for a ride: what it takes, and its legs.
-fn print_ride<W: Write>(out: &mut W, ride: &Ride) -> io::Result<()> {
-    let seconds = ride.fare.seconds;
-    let points = ride.fare.points;
-    write!(out, "{seconds} s, {points} points: legs")?;
-    for leg in ride.legs.legs() {
-        write!(out, " {leg}")?;
-    }
-    writeln!(out)
-}
-
 fn print_answer<W: Write>(out: &mut W, input: &[u8]) -> io::Result<()> {
     match answer(input) {
-        Ok(ride) => print_ride(out, &ride),
-        Err(why) => {
-            let number = why.number();
-            writeln!(out, "refused {number}: {why}")
-        }
+        Ok(ride) => writeln!(out, "{ride}"),
+        Err(why) => writeln!(out, "refused {}: {why}", why.number()),
     }
 }
 
 fn main(rt: HostRuntime) -> io::Result<()> {
     let mut input = Vec::new(rt.alloc());
     // one byte more than is looked at tells a longer input
-    rt.stdin().take(65_537).read_to_end(&mut input)?;
+    rt.stdin().take(LIMIT as u64 + 1).read_to_end(&mut input)?;
     let mut out = BufWriter::new(rt.alloc(), rt.stdout())?;
     if input.len() > LIMIT {
         writeln!(out, "too long")?;

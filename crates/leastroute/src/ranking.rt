@@ -1,28 +1,32 @@
 // Which ranking is asked for.
-ghost use Rattle.std.specs.Prelude.{◌≡◌};
+ghost use Rattle.std.specs.Prelude.{◌≡◌, ok_or};
+ghost use Rattle.network.specs.declared.refusal.Refusal.TheVariants.{UnknownLetter};
 ghost use Rattle.leastroute.specs.Rankings.{ranking_of};
 
 use cost::model::CostModel;
 use cost::points::PointsThenSeconds;
 use cost::seconds::Seconds;
+use network::refusal::Refusal;
 
 #[derive(Clone, Copy, Debug)]
 pub enum Ranking {
-    // by riding time
+    /// By riding time.
     Seconds,
-    // by card points, and at equal points by riding time
+    /// By card points, and at equal points by riding time.
     Points,
 }
 
-impl Ranking {
-    // The ranking that a letter names: the mark of its cost model.
-    pub fn of_letter(letter: u8) -> Option<Ranking>
-        ensures { result ≡ ranking_of letter }
-    {
+/// The ranking that a letter names: the mark of its cost model.
+impl TryFrom<u8> for Ranking {
+    type Error = Refusal;
+
+    ghost try_from_gives = { λ letter r. r ≡ ok_or (ranking_of letter) UnknownLetter };
+
+    fn try_from(letter: u8) -> Result<Ranking, Refusal> {
         match letter {
-            Seconds::MARK => Some(Ranking::Seconds),
-            PointsThenSeconds::MARK => Some(Ranking::Points),
-            _ => None,
+            Seconds::MARK => Ok(Ranking::Seconds),
+            PointsThenSeconds::MARK => Ok(Ranking::Points),
+            _ => Err(Refusal::UnknownLetter),
         }
     }
 }

@@ -1,11 +1,24 @@
 // A ride from a station to another.
 use cost::fare::Fare;
 use search_types::leg_list::LegList;
+use std::fmt;
 
 #[derive(Clone, Copy)]
 pub struct Ride {
-    // what the legs take together
+    /// What the legs take together.
     pub fare: Fare,
-    // the legs in order, by number
+    /// The legs in order, by number.
     pub legs: LegList,
+}
+
+/// What it takes, and its legs, in one line.
+impl fmt::Display for Ride {
+    fn fmt<W: fmt::Write>(&self, f: &mut fmt::Formatter<W>) -> fmt::Result {
+        let Fare { points, seconds } = self.fare;
+        write!(f, "{seconds} s, {points} points: legs")?;
+        for leg in self.legs.legs() {
+            write!(f, " {leg}")?;
+        }
+        Ok(())
+    }
 }

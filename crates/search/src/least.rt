@@ -27,6 +27,13 @@ fn check(ends: Ends, stations: u8, entries: usize) -> Result<(), Refusal>
     Ok(())
 }
 
+fn clear<C: Copy>(workspace: &mut [Entry<C>], blank: Entry<C>)
+    ensures { workspace.new ≡ replicate (length workspace.old) blank }
+{
+    // not `fill`, which asks that a clone never fails: `Copy` does not say so
+    workspace.fill_with(move || blank);
+}
+
 // Searches, and clears the workspace.
 fn search_and_clear<K: CostModel>(
     snapshot: &Snapshot,
@@ -51,8 +58,7 @@ fn search_and_clear<K: CostModel>(
         cost: model.zero(),
         station: 0,
     };
-    // not `fill`, which asks that a clone never fails: `Copy` does not say so
-    workspace.fill_with(move || blank);
+    clear(workspace, blank);
     *route = found.ok_or(Refusal::NoFurtherRoute)?;
     Ok(())
 }

@@ -1,11 +1,13 @@
 use Rattle.std.proofs.Common.{◌≤◌, length, arith}
-use Rattle.search_types.specs.Bars.{bars_of}
+use Rattle.std.proofs.lemmas.Result.{err_from_is_err_and}
 use Rattle.leastroute.proofs.Refused.{refused_ride}
 use Rattle.leastroute.proofs.rides.least_ride.Goals as goal
 
-pub returns-in-Err : goal.returns-in-Err
-returns-in-Err g c =
+pub returns-in_err-least_route : goal.returns-in_err-least_route
+returns-in_err-least_route g c =
+    let p = err_from_is_err_and c.from_residual.result c.from_residual.ensures.1 in
     let m = g.N.Network.meaning c.args.network.now in
     let room : m.stations ≤ length c.args.workspace.now = omega (arith, (g.N.Network.sound c.args.network.now).stations_high, c.requires) in
-    refused_ride (g.K.CostModel.costs c.args.model.now) m c.args.start c.args.goal c.in-Err.why c.new-legs.result c.least_route.new.route c.args.workspace.now c.least_route.new.workspace
-    (bars_of c.none-bars.result) c.none-bars.ensures (length c.args.workspace.now) room c.in-Err.ensures
+    rw (p.1, p.2)
+    (refused_ride (g.K.CostModel.costs c.args.model.now) m c.args.ends.start c.args.ends.goal c.in_err-least_route.field-0.0 c.new-legs.result c.least_route.new.route c.args.workspace.now c.least_route.new.workspace
+    c.none-bars.result c.none-bars.ensures room c.in_err-least_route.ensures)
