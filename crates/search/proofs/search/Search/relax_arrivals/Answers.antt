@@ -15,14 +15,14 @@ loop-number-init g c = (
       awaits = subst (λ w. Awaits w (network_of c.args.self.now) c.args.last.station 0) (sym c.into_iter-number-iterator.ensures.into_iter_gives) c.arrivals-number-items.ensures;
     },
   ),
-  keeps_self c.args.queue.now,
+  keeps_self c.args.settling.now.queue,
 )
 
 pub relax_leg-requires : goal.relax_leg-requires
 relax_leg-requires g c =
     let s = c.args.self.now in
     let (i, was) = c.loop-number.invariant.0 in
-    let next = relaxing_next (g.K.CostModel.costs s.model.now) (g.K.CostModel.laws s.model.now) s c.loop-number.queue c.loop-number.places i c.loop-number.number-iterator c.next.new.self c.args.last was c.in-Some.number c.in-Some.ensures.steps in
+    let next = relaxing_next (g.K.CostModel.costs s.model.now) (g.K.CostModel.laws s.model.now) s c.loop-number.settling i c.loop-number.number-iterator c.next.new.self c.args.last was c.in-Some.number c.in-Some.ensures.steps in
     record { stage = next.0; last = was.last_is; arrives = next.1 }
 
 pub loop-number-preserved : goal.loop-number-preserved
@@ -32,12 +32,12 @@ loop-number-preserved g c =
     let laws = g.K.CostModel.laws s.model.now in
     let after = c.relax_leg.ensures in
     let (i, was) = c.loop-number.invariant.0 in
-    let next = relaxing_next k laws s c.loop-number.queue c.loop-number.places i c.loop-number.number-iterator c.next.new.self c.args.last was c.in-Some.number c.in-Some.ensures.steps in (
+    let next = relaxing_next k laws s c.loop-number.settling i c.loop-number.number-iterator c.next.new.self c.args.last was c.in-Some.number c.in-Some.ensures.steps in (
       (
         suc c.in-Some.number,
         record {
           stage = after.stage;
-          last_is = last_kept k laws s c.loop-number.queue c.loop-number.places c.relax_leg.new.queue c.args.last was.last_is after.keeps;
+          last_is = last_kept k c.loop-number.settling.queue c.relax_leg.new.settling.queue c.args.last was.last_is after.keeps;
           awaits = next.2;
         },
       ),
@@ -49,6 +49,6 @@ returns g c =
     let s = c.args.self.now in
     let (i, was) = c.loop-number.invariant.0 in
     record {
-      stage = relaxing_end (g.K.CostModel.costs s.model.now) (g.K.CostModel.laws s.model.now) s c.loop-number.queue c.loop-number.places i c.loop-number.number-iterator c.next.new.self c.args.last was c.in-None.ensures.steps;
+      stage = relaxing_end (g.K.CostModel.costs s.model.now) (g.K.CostModel.laws s.model.now) s c.loop-number.settling i c.loop-number.number-iterator c.next.new.self c.args.last was c.in-None.ensures.steps;
       keeps = c.loop-number.invariant.1;
     }
