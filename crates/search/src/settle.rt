@@ -20,13 +20,9 @@ impl<'a, K: CostModel> Search<'a, K> {
         requires { (network_of self.now).at number ≡ Some leg }
         ensures { Decides result (Usable (network_of self.now) (barred_in self.now) number leg) }
     {
-        if self.bars.bars_leg(number) {
-            return false;
-        }
-        if self.bars.bars_station(leg.from) {
-            return false;
-        }
-        !self.bars.bars_station(leg.to)
+        !(self.bars.bars_leg(number)
+            || self.bars.bars_station(leg.from)
+            || self.bars.bars_station(leg.to))
     }
 
     // One leg into the station that came out last: its start waits with the cost over it, if that is its first cost or
