@@ -38,7 +38,7 @@ module _ {C : Type 0} (k : Costs C) (laws : Laws k) (m : Meaning) (sound : Sound
 
 -- only the goal waits
 module _ {K C : Type 0} (k : Costs C) (s : Search K) (fits : s.goal < (network_of s).stations) (q q' : Queue (Entry C)) (z : C) (ez : z ≡ k.zero) (none : held q ≡ []) (first : gone q ≡ 0) (roomy : (network_of s).stations ≤ room q) where
-  pub stage_start : (i f : ℕ) → f ≡ s.goal → held q' ≡ cond (has_room q) (held q ++ record { cost = z; station = s.goal } ∷ []) (held q) → Keeps q q' → Stage k s i q' (set (replicate 64 None) f (Some 0))
+  pub stage_start : (i f : ℕ) → f ≡ s.goal → held q' ≡ cond (has_room q) (held q ++ record { cost = z; station = s.goal } ∷ []) (held q) → Keeps q q' → Stage k s i (record { queue = q'; places = set (replicate 64 None) f (Some 0) })
   stage_start i f ef hs keeps = record {
     settles = subst (λ n. Settles k (network_of s) (barred_in s) s.goal n i (held q') (set (replicate 64 None) f (Some 0))) (sym (keeps.gone_is ∙ first))
         (subst (λ xs. Settles k (network_of s) (barred_in s) s.goal 0 i xs (set (replicate 64 None) f (Some 0))) (sym (hs ∙ cond-true (has_room q) (held q ++ record { cost = z; station = s.goal } ∷ []) (held q) free ∙ ap (λ xs. xs ++ record { cost = z; station = s.goal } ∷ []) none))

@@ -13,6 +13,7 @@ use Rattle.search_types.specs.declared.entry.Entry.{Entry}
 use Rattle.search.specs.declared.cost_table.CostTable.{CostTable}
 use Rattle.search.specs.declared.labels.Labels.{Labels}
 use Rattle.search.specs.declared.search.Search.{Search}
+use Rattle.search.specs.declared.settling.Settling.{Settling}
 use Rattle.search_types.specs.Bars.{bars_of}
 use Rattle.search.specs.Lines.{line_of, hops_of, Labelled}
 use Rattle.search.specs.Tables.{blank, cost_of, Settles, Settled}
@@ -24,9 +25,9 @@ abbrev pub barred_in : {K : Type 0} → Search K → routes.Bars
 barred_in s = bars_of s.bars.now
 
 -- phase 1, at the leg number i, with room for every station
-pub record Stage {K C : Type 0} (k : Costs C) (s : Search K) (i : ℕ) (q : Queue (Entry C)) (places : List (Option ℕ)) : Type 0 where
-  pub settles : Settles k (network_of s) (barred_in s) s.goal (gone q) i (held q) places
-  pub roomy : (network_of s).stations ≤ room q
+pub record Stage {K C : Type 0} (k : Costs C) (s : Search K) (i : ℕ) (t : Settling C) : Type 0 where
+  pub settles : Settles k (network_of s) (barred_in s) s.goal (gone t.queue) i (held t.queue) t.places
+  pub roomy : (network_of s).stations ≤ room t.queue
 
 -- the entry that came out last
 pub record Last {C : Type 0} (k : Costs C) (q : Queue (Entry C)) (last : Entry C) : Type 0 where
@@ -35,15 +36,19 @@ pub record Last {C : Type 0} (k : Costs C) (q : Queue (Entry C)) (last : Entry C
 
 -- phase 1 while the arrivals at the station that came out last are looked at: those below i were, and the walk has the
 -- others
-pub record Relaxing {K C : Type 0} (k : Costs C) (s : Search K) (last : Entry C) (i : ℕ) (walk : ArrivalsAt) (q : Queue (Entry C)) (places : List (Option ℕ)) : Type 0 where
-  pub stage : Stage k s i q places
-  pub last_is : Last k q last
+pub record Relaxing {K C : Type 0} (k : Costs C) (s : Search K) (last : Entry C) (i : ℕ) (walk : ArrivalsAt) (t : Settling C) : Type 0 where
+  pub stage : Stage k s i t
+  pub last_is : Last k t.queue last
   pub awaits : Awaits walk (network_of s) last.station i
 
 -- the places once a waiting entry has come out: it stands at the end of those that have, and the entry that stood there
 -- went to its place
 abbrev pub places_after : {C : Type 0} → Costs C → Queue (Entry C) → Least (Entry C) → List (Option ℕ) → List (Option ℕ)
 places_after k q l places = slice_set (slice_set places (slice_index_or (held q) l.place (blank k)).station (Some l.place)) l.entry.station (Some (gone q - 1))
+
+-- the same, once a waiting entry has come out of the queue
+abbrev pub popped : {C : Type 0} → Costs C → Settling C → Least (Entry C) → Settling C
+popped k t l = record { queue = t.queue; places = places_after k t.queue l t.places }
 
 abbrev pub table_cost : {C : Type 0} → Costs C → CostTable C → ℕ → C
 table_cost k t = cost_of k t.row.now t.places.now

@@ -5,6 +5,7 @@ ghost use Rattle.search.specs.Stages.{network_of, barred_in};
 
 use crate::cost_table::CostTable;
 use crate::search::Search;
+use crate::settling::Settling;
 use cost::model::CostModel;
 use queue::queue::Queue;
 use search_types::entry::Entry;
@@ -21,18 +22,20 @@ impl<'a, K: CostModel> Search<'a, K> {
         ensures found { Found (K.CostModel.costs self.now.model.now) (network_of self.now) (barred_in self.now) start self.now.goal result }
         ensures room { length workspace.new ≡ length workspace.old }
     {
-        let mut places = [None; 64];
-        places[usize::from(self.goal)] = Some(0);
-        let mut queue = Queue::over(workspace);
-        let _ = queue.insert(Entry {
+        let mut settling = Settling {
+            queue: Queue::over(workspace),
+            places: [None; 64],
+        };
+        settling.places[usize::from(self.goal)] = Some(0);
+        let _ = settling.queue.insert(Entry {
             cost: self.model.zero(),
             station: self.goal,
         });
-        self.settle(&mut queue, &mut places);
-        places[usize::from(start)]?;
+        self.settle(&mut settling);
+        settling.places[usize::from(start)]?;
         let table = CostTable {
-            row: queue.held(),
-            places: &places,
+            row: settling.queue.held(),
+            places: &settling.places,
         };
         let labels = self.label(&table);
         Some(self.trace(&labels, start))

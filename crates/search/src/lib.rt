@@ -8,4 +8,5 @@ mod labels;
 pub mod least;
 mod search;
 mod settle;
+mod settling;
 mod trace;

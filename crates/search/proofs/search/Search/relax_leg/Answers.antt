@@ -14,7 +14,7 @@ use Rattle.search.proofs.search.Search.relax_leg.Given.{Over}
 use Rattle.search.proofs.search.Search.relax_leg.Goals as goal
 use Rattle.search.proofs.search.Search.relax_leg.Goals.{In-Some, After-may_use, in_default-via-in-None-1, in_default-via-in-Some-place+else-from-gone}
 
-arrived : (g : Over) (c : In-Some g) → Arrived (g.K.CostModel.costs c.args.self.now.model.now) c.args.self.now c.args.number c.args.queue.now c.args.places.now c.args.last c.in-Some.leg
+arrived : (g : Over) (c : In-Some g) → Arrived (g.K.CostModel.costs c.args.self.now.model.now) c.args.self.now c.args.number c.args.settling.now c.args.last c.in-Some.leg
 arrived g c = record {
   laws = g.K.CostModel.laws c.args.self.now.model.now;
   stage = c.requires.stage;
@@ -28,13 +28,13 @@ before_as : {C : Type 0} (k : Costs C) (a a' d d' : C) (r t : Bool) → a ≡ a'
 before_as k a a' d d' r t p q e h = cc
 
 -- where the leg's start stands, if it has an entry: it waits
-place_read : (g : Over) (c : After-may_use g) → c.in_default.place ≡ get_or c.args.places.now c.in-Some.leg.from None
+place_read : (g : Over) (c : After-may_use g) → c.in_default.place ≡ get_or c.args.settling.now.places c.in-Some.leg.from None
 place_read g c = elim c.in_default.branch [
-  | in_default-via-in-None-1 w ↦ w.place-is ∙ ap (λ v. get_or c.args.places.now v None) c.from-from.ensures
-  | in_default-via-in-Some-place+else-from-gone w ↦ w.place-is ∙ sym w.in-Some-place.is ∙ ap (λ v. get_or c.args.places.now v None) c.from-from.ensures
+  | in_default-via-in-None-1 w ↦ w.place-is ∙ ap (λ v. get_or c.args.settling.now.places v None) c.from-from.ensures
+  | in_default-via-in-Some-place+else-from-gone w ↦ w.place-is ∙ sym w.in-Some-place.is ∙ ap (λ v. get_or c.args.settling.now.places v None) c.from-from.ensures
 ]
 
-waits : (g : Over) (c : After-may_use g) (w : ℕ) → c.in_default.place ≡ Some w → gone c.args.queue.now ≤ w
+waits : (g : Over) (c : After-may_use g) (w : ℕ) → c.in_default.place ≡ Some w → gone c.args.settling.now.queue ≤ w
 waits g c w e = elim c.in_default.branch [
   | in_default-via-in-None-1 x ↦ absurd (cc)
   | in_default-via-in-Some-place+else-from-gone x ↦
@@ -49,34 +49,34 @@ record Spot {C : Type 0} (q : Queue (Entry C)) (places : List (Option ℕ)) (v w
   near : w ≤ 63
   high : w < length (held q)
 
-spot : (g : Over) (c : After-may_use g) (w : ℕ) → c.in_default.place ≡ Some w → Spot c.args.queue.now c.args.places.now c.in-Some.leg.from w
+spot : (g : Over) (c : After-may_use g) (w : ℕ) → c.in_default.place ≡ Some w → Spot c.args.settling.now.queue c.args.settling.now.places c.in-Some.leg.from w
 spot g c w e = record { is = at; low = waits g c w e; near = small; high = omega (arith, at, small, (c.requires.stage.settles.placed.there c.in-Some.leg.from (omega (arith, at, small))).0) }
   where
-    read : get_or c.args.places.now c.in-Some.leg.from None ≡ Some w
+    read : get_or c.args.settling.now.places c.in-Some.leg.from None ≡ Some w
     read = sym (place_read g c) ∙ e
 
-    at : w ≡ place c.args.places.now c.in-Some.leg.from
-    at = place_some c.args.places.now c.in-Some.leg.from w read
+    at : w ≡ place c.args.settling.now.places c.in-Some.leg.from
+    at = place_some c.args.settling.now.places c.in-Some.leg.from w read
 
     small : w ≤ 63
     small = c.requires.stage.settles.placed.small c.in-Some.leg.from w read
 
-pub overflow_cast-places : goal.overflow_cast-places
-overflow_cast-places g c =
+pub overflow_cast-settling : goal.overflow_cast-settling
+overflow_cast-settling g c =
     let s = c.args.self.now in
-    let few : length (held c.args.queue.now) ≤ s.network.now.stations = placed_most _ s.network.now.stations (snapshot_sound s.network.now).stations_high (held c.args.queue.now) c.args.places.now c.requires.stage.settles.placed in
+    let few : length (held c.args.settling.now.queue) ≤ s.network.now.stations = placed_most _ s.network.now.stations (snapshot_sound s.network.now).stations_high (held c.args.settling.now.queue) c.args.settling.now.places c.requires.stage.settles.placed in
     omega (arith, few, ap length c.held.ensures, (snapshot_sound s.network.now).stations_high)
 
 pub returns-clause-stage : goal.returns-clause-stage
 returns-clause-stage g c =
     let a = arrived g (goal.at.returns-clause-stage g c).In-Some in
-    let is : c.in-Some-place.place ≡ place c.args.places.now c.in-Some.leg.from = place_some c.args.places.now c.in-Some.leg.from _ (rw c.from-from.ensures at c.in-Some-place.is) in
+    let is : c.in-Some-place.place ≡ place c.args.settling.now.places c.in-Some.leg.from = place_some c.args.settling.now.places c.in-Some.leg.from _ (rw c.from-from.ensures at c.in-Some-place.is) in
     relax_pass a c.in-Some-place.place is (λ u. inl (omega arith))
 
 pub returns-then-not-may_use-clause-stage : goal.returns-then-not-may_use-clause-stage
 returns-then-not-may_use-clause-stage g c =
     let a = arrived g (goal.at.returns-then-not-may_use-clause-stage g c).In-Some in
-    relax_pass a (place c.args.places.now c.in-Some.leg.from) refl (λ u. absurd (both_ways c.may_use.result c.if-not-may_use.true (c.may_use.ensures.1 u)))
+    relax_pass a (place c.args.settling.now.places c.in-Some.leg.from) refl (λ u. absurd (both_ways c.may_use.result c.if-not-may_use.true (c.may_use.ensures.1 u)))
 
 pub offset_bounds-held-place : goal.offset_bounds-held-place
 offset_bounds-held-place g c =
@@ -97,17 +97,17 @@ pub returns-in-None-clause-stage : goal.returns-in-None-clause-stage
 returns-in-None-clause-stage g c =
     let k = g.K.CostModel.costs c.args.self.now.model.now in
     let a = arrived g (goal.at.returns-in-None-clause-stage g c).In-Some in
-    let is : 64 ≡ place c.args.places.now c.in-Some.leg.from = place_none c.args.places.now c.in-Some.leg.from (sym (place_read g (goal.at.returns-in-None-clause-stage g c).After-may_use) ∙ c.in-None.is) in
+    let is : 64 ≡ place c.args.settling.now.places c.in-Some.leg.from = place_none c.args.settling.now.places c.in-Some.leg.from (sym (place_read g (goal.at.returns-in-None-clause-stage g c).After-may_use) ∙ c.in-None.is) in
     let free = c.may_use.ensures.0 c.if-not-may_use.false in
-    let most : length (held c.args.queue.now) ≤ 64 = omega (arith, placed_most k _ (snapshot_sound c.args.self.now.network.now).stations_high (held c.args.queue.now) c.args.places.now c.requires.stage.settles.placed, (snapshot_sound c.args.self.now.network.now).stations_high) in
-    let over = relax_over a 64 is (omega (arith, most, gone_within c.args.queue.now)) c.of_leg.result c.join-cost.result c.of_leg.ensures c.join-cost.ensures in
+    let most : length (held c.args.settling.now.queue) ≤ 64 = omega (arith, placed_most k _ (snapshot_sound c.args.self.now.network.now).stations_high (held c.args.settling.now.queue) c.args.settling.now.places c.requires.stage.settles.placed, (snapshot_sound c.args.self.now.network.now).stations_high) in
+    let over = relax_over a 64 is (omega (arith, most, gone_within c.args.settling.now.queue)) c.of_leg.result c.join-cost.result c.of_leg.ensures c.join-cost.ensures in
     relax_insert a 64 is free c.join-cost.result over c.insert.new.self c.insert.ensures.keeps (omega arith) c.insert.ensures.held _
-    ((λ t. set c.args.places.now (c.from-from.ensures t) (Some (length (c.held.ensures t)))))
+    ((λ t. set c.args.settling.now.places (c.from-from.ensures t) (Some (length (c.held.ensures t)))))
 
 pub returns-then-before-clause-stage : goal.returns-then-before-clause-stage
 returns-then-before-clause-stage g c =
     let k = g.K.CostModel.costs c.args.self.now.model.now in
-    let q = c.args.queue.now in
+    let q = c.args.settling.now.queue in
     let at = goal.at.returns-then-before-clause-stage g c in
     let a = arrived g at.In-Some in
     let w = c.from-place.result in
@@ -119,7 +119,7 @@ returns-then-before-clause-stage g c =
 pub returns-else-before-clause-stage : goal.returns-else-before-clause-stage
 returns-else-before-clause-stage g c =
     let k = g.K.CostModel.costs c.args.self.now.model.now in
-    let q = c.args.queue.now in
+    let q = c.args.settling.now.queue in
     let at = goal.at.returns-else-before-clause-stage g c in
     let a = arrived g at.In-Some in
     let w = c.from-place.result in
