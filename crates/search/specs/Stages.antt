@@ -1,5 +1,5 @@
 -- A search under way in a queue and its tables.
-use Rattle.std.specs.Prelude.{◌≡◌, ℕ, ◌-◌, ◌<◌, ◌≤◌, List, Some, Option, slice_index_or, slice_set}
+use Rattle.std.specs.Prelude.{◌≡◌, ℕ, suc, ◌-◌, ◌<◌, ◌≤◌, List, Some, None, Option, slice_index_or, slice_set}
 use Rattle.network.specs.Meaning.{Meaning}
 use Rattle.cost.specs.Costs.{Costs}
 use Rattle.queue.specs.declared.least.Least.{Least}
@@ -60,13 +60,14 @@ SettledIn k s t = Settled k (network_of s) (barred_in s) s.goal t.row.now t.plac
 abbrev pub LabelledIn : {K C : Type 0} → Costs C → Search K → CostTable C → ℕ → ℕ → Labels → Type 0
 LabelledIn k s t c i ls = Labelled k (network_of s) (barred_in s) s.goal c i (table_cost k t) ls
 
--- the station whose arrivals are looked at: it stands in the line, and fewer than 63 legs lead from it
-pub record Current (ls : Labels) : Type 0 where
+-- the station whose arrivals are looked at: it stands in the line, and the labels over legs into it have h legs, at most 63
+pub record Current (h : ℕ) (ls : Labels) : Type 0 where
   pub in_line : ls.done < ls.count
-  pub near : hops_of ls (line_of ls ls.done) ≤ 62
+  pub hops : h ≡ suc (hops_of ls (line_of ls ls.done))
+  pub near : h ≤ 63
 
 -- phase 2 while the arrivals at that station are looked at: those below i were, and the walk has the others
-pub record Naming {K C : Type 0} (k : Costs C) (s : Search K) (t : CostTable C) (i : ℕ) (walk : ArrivalsAt) (ls : Labels) : Type 0 where
+pub record Naming {K C : Type 0} (k : Costs C) (s : Search K) (t : CostTable C) (h i : ℕ) (walk : ArrivalsAt) (ls : Labels) : Type 0 where
   pub labelled : LabelledIn k s t ls.done i ls
-  pub current : Current ls
+  pub current : Current h ls
   pub awaits : Awaits walk (network_of s) (line_of ls ls.done) i

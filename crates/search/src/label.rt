@@ -8,7 +8,7 @@ ghost use Rattle.search.specs.Tables.{seen};
 ghost use Rattle.snapshot.specs.Meanings.{Arrives};
 
 use crate::cost_table::CostTable;
-use crate::labels::Labels;
+use crate::labels::{Label, Labels};
 use crate::search::Search;
 use cost::model::CostModel;
 use network::leg::Leg;
@@ -40,29 +40,26 @@ impl<'a, K: CostModel> Search<'a, K> {
         self.level(over, table.cost(leg.from))
     }
 
-    // One leg into the station whose arrivals are looked at: its start gets a label, if it has none or one that is not as
-    // good. The costs are joined only then, so that they stand for at most 63 legs.
-    fn label_leg(&self, table: &CostTable<K::Cost>, labels: &mut Labels, number: u16)
+    // One leg into the station whose arrivals are looked at: its start gets the label over it, if it has none or one that is
+    // not as good. The costs are joined only then, so that they stand for at most 63 legs.
+    fn label_leg(&self, table: &CostTable<K::Cost>, labels: &mut Labels, label: Label)
         requires settled { SettledIn (K.CostModel.costs self.now.model.now) self.now table.now }
-        requires labelled { LabelledIn (K.CostModel.costs self.now.model.now) self.now table.now labels.old.done number labels.old }
-        requires current { Current labels.old }
-        requires arrives { Arrives ((network_of self.now).at number) (line_of labels.old labels.old.done) }
-        ensures labelled { LabelledIn (K.CostModel.costs self.now.model.now) self.now table.now labels.old.done (suc number) labels.new }
-        ensures current { Current labels.new }
+        requires labelled { LabelledIn (K.CostModel.costs self.now.model.now) self.now table.now labels.old.done label.first labels.old }
+        requires current { Current label.hops labels.old }
+        requires arrives { Arrives ((network_of self.now).at label.first) (line_of labels.old labels.old.done) }
+        ensures labelled { LabelledIn (K.CostModel.costs self.now.model.now) self.now table.now labels.old.done (suc label.first) labels.new }
+        ensures current { Current label.hops labels.new }
         ensures done { labels.new.done ≡ labels.old.done }
         ensures station { line_of labels.new labels.old.done ≡ line_of labels.old labels.old.done }
     {
-        let Some(leg) = self.network.leg_at(number) else {
+        let Some(leg) = self.network.leg_at(label.first) else {
             return;
         };
-        let hops = labels.hops[usize::from(leg.to)] + 1;
-        if !labels.improves(leg.from, hops, number) {
-            return;
-        }
-        if self.is_tight(table, number, leg) {
-            labels.put(leg.from, hops, number);
+        if labels.improves(leg.from, label) && self.is_tight(table, label.first, leg) {
+            labels.put(leg.from, label);
         }
     }
+
     // Every leg into the first station of the line that is not done. Where 63 legs lead from it, all 64 stations are met,
     // and nothing lies behind.
     fn label_arrivals(&self, table: &CostTable<K::Cost>, labels: &mut Labels)
@@ -73,11 +70,18 @@ impl<'a, K: CostModel> Search<'a, K> {
         ensures done { labels.new.done ≡ labels.old.done }
     {
         let station = labels.line[labels.done];
-        if labels.hops[usize::from(station)] > 62 {
+        let Some(to) = labels.labels[usize::from(station)] else {
+            return;
+        };
+        if to.hops > 62 {
             return;
         }
-        for number in self.network.arrivals(station) {
-            self.label_leg(table, labels, number);
+        for first in self.network.arrivals(station) {
+            let label = Label {
+                hops: to.hops + 1,
+                first,
+            };
+            self.label_leg(table, labels, label);
         }
     }
 

@@ -15,10 +15,7 @@ impl<'a, K> Search<'a, K> {
     fn end_of(&self, number: u16) -> u8
         ensures { result ≡ leg_end ((network_of self.now).at number) }
     {
-        match self.network.leg_at(number) {
-            Some(leg) => leg.to,
-            None => 0,
-        }
+        self.network.leg_at(number).map_or(0, |leg| leg.to)
     }
 
     // The legs from a station with a label to the goal.
@@ -29,8 +26,8 @@ impl<'a, K> Search<'a, K> {
     {
         let mut route = LegList::new();
         let mut at = start;
-        for _i in 0..labels.hops[usize::from(start)] {
-            let number = labels.first[usize::from(at)];
+        for _i in 0..labels.labels[usize::from(start)].map_or(0, |label| label.hops) {
+            let number = labels.labels[usize::from(at)].map_or(0, |label| label.first);
             let _ = route.push(number);
             at = self.end_of(number);
         }

@@ -1,126 +1,49 @@
-use Rattle.std.proofs.Common.{◌≡◌, suc, ◌+◌, ◌≤◌, get_or, sym, refl, ap, ◌∙◌, subst, inl, inr, arith}
-use Rattle.search.specs.Lines.{line_of, hops_of, first_of}
-use Rattle.search.specs.Stages.{LabelledIn, Current}
-use Rattle.search.proofs.Namings.{to_below, from_below, to_hops, to_read, from_read, to_seen, to_stands, naming_pass, put_room, put_labelled, put_station, put_current, better, not_better}
-use Rattle.route.proofs.Settle.{either}
+use Rattle.std.proofs.Common.{suc, sym, ap, ◌∙◌, subst}
 use Rattle.std.proofs.lemmas.Bool.{both_ways}
+use Rattle.search.specs.Lines.{line_of}
+use Rattle.search.specs.Stages.{LabelledIn, Current}
+use Rattle.search.proofs.Namings.{from_below, to_seen, to_stands, naming_pass, naming_loose, put_room, put_labelled, put_station, put_current}
 use Rattle.search.proofs.search.Search.label_leg.Goals as goal
+use Rattle.search.proofs.search.Search.label_leg.Goals.{else-improves-via-then-improves+else-is_tight, else-improves-via-else-improves}
 
-pub bounds-labels-from : goal.bounds-labels-from
-bounds-labels-from g c =
+pub is_tight-requires-clause-reached : goal.is_tight-requires-clause-reached
+is_tight-requires-clause-reached g c =
     let k = g.K.CostModel.costs c.args.self.now.model.now in
-    let laws = g.K.CostModel.laws c.args.self.now.model.now in
-    let s = c.args.self.now in
-    let t = c.args.table.now in
-    let ls = c.args.labels.now in
-    let l = c.in-Some.leg in
-    let at = sym c.in-Some.ensures in
-    omega (arith, c.from.ensures, to_below k laws s t c.requires.settled c.args.number ls c.requires.labelled c.requires.current c.requires.arrives l at)
+    to_seen k (g.K.CostModel.laws c.args.self.now.model.now) c.args.self.now c.args.table.now c.requires.settled c.args.label c.args.labels.now c.requires.labelled c.requires.current c.requires.arrives c.in-Some.leg (sym c.in-Some.ensures)
 
-pub overflow_add-hops : goal.overflow_add-hops
-overflow_add-hops g c =
+pub is_tight-requires-clause-short : goal.is_tight-requires-clause-short
+is_tight-requires-clause-short g c =
     let k = g.K.CostModel.costs c.args.self.now.model.now in
-    let laws = g.K.CostModel.laws c.args.self.now.model.now in
-    let s = c.args.self.now in
-    let t = c.args.table.now in
-    let ls = c.args.labels.now in
-    let l = c.in-Some.leg in
-    let at = sym c.in-Some.ensures in
-    let to : get_or ls.hops c.from.result 0 ≡ hops_of ls l.to = ap (λ v. get_or ls.hops v 0) c.from.ensures ∙ to_read k laws s t c.requires.settled c.args.number ls c.requires.labelled c.requires.current c.requires.arrives l at in
-    let from : get_or ls.hops l.from 0 ≡ hops_of ls l.from = from_read k laws s t c.requires.settled c.args.number ls c.requires.labelled c.requires.current c.requires.arrives l at in
-    omega (arith, to, to_hops k laws s t c.requires.settled c.args.number ls c.requires.labelled c.requires.current c.requires.arrives l at)
-
-pub returns-then-not-improves : goal.returns-then-not-improves
-returns-then-not-improves g c =
-    let k = g.K.CostModel.costs c.args.self.now.model.now in
-    let laws = g.K.CostModel.laws c.args.self.now.model.now in
-    let s = c.args.self.now in
-    let t = c.args.table.now in
-    let ls = c.args.labels.now in
-    let l = c.in-Some.leg in
-    let at = sym c.in-Some.ensures in
-    let to : get_or ls.hops c.from.result 0 ≡ hops_of ls l.to = ap (λ v. get_or ls.hops v 0) c.from.ensures ∙ to_read k laws s t c.requires.settled c.args.number ls c.requires.labelled c.requires.current c.requires.arrives l at in
-    let from : get_or ls.hops l.from 0 ≡ hops_of ls l.from = from_read k laws s t c.requires.settled c.args.number ls c.requires.labelled c.requires.current c.requires.arrives l at in
-    record {
-      labelled = naming_pass k laws s t c.requires.settled c.args.number ls c.requires.labelled c.requires.current c.requires.arrives l at (λ w. either (not_better ls l.from (get_or ls.hops c.from.result 0 + 1) c.args.number (sym c.improves.ensures ∙ c.if-not-improves.true)) (λ x. inl (omega (arith, x, to, from))) (λ x. inr (omega (arith, x.0, to, from), x.1)));
-      current = c.requires.current;
-      done = refl;
-      station = refl;
-    }
-
-pub improves-requires : goal.improves-requires
-improves-requires g c =
-    let k = g.K.CostModel.costs c.args.self.now.model.now in
-    let laws = g.K.CostModel.laws c.args.self.now.model.now in
-    let s = c.args.self.now in
-    let t = c.args.table.now in
-    let ls = c.args.labels.now in
-    let l = c.in-Some.leg in
-    let at = sym c.in-Some.ensures in
-    from_below k laws s t c.requires.settled c.args.number ls c.requires.labelled c.requires.current c.requires.arrives l at
-
-pub is_tight-requires : goal.is_tight-requires
-is_tight-requires g c =
-    let k = g.K.CostModel.costs c.args.self.now.model.now in
-    let laws = g.K.CostModel.laws c.args.self.now.model.now in
-    let s = c.args.self.now in
-    let t = c.args.table.now in
-    let ls = c.args.labels.now in
-    let l = c.in-Some.leg in
-    let at = sym c.in-Some.ensures in
-    record { settled = c.requires.settled; shown = at; reached = to_seen k laws s t c.requires.settled c.args.number ls c.requires.labelled c.requires.current c.requires.arrives l at; short = to_stands k laws s t c.requires.settled c.args.number ls c.requires.labelled c.requires.current c.requires.arrives l at }
+    to_stands k (g.K.CostModel.laws c.args.self.now.model.now) c.args.self.now c.args.table.now c.requires.settled c.args.label c.args.labels.now c.requires.labelled c.requires.current c.requires.arrives c.in-Some.leg (sym c.in-Some.ensures)
 
 pub put-requires : goal.put-requires
 put-requires g c =
     let k = g.K.CostModel.costs c.args.self.now.model.now in
     let laws = g.K.CostModel.laws c.args.self.now.model.now in
-    let s = c.args.self.now in
-    let t = c.args.table.now in
-    let ls = c.args.labels.now in
-    let l = c.in-Some.leg in
-    let at = sym c.in-Some.ensures in
-    let to : get_or ls.hops c.from.result 0 ≡ hops_of ls l.to = ap (λ v. get_or ls.hops v 0) c.from.ensures ∙ to_read k laws s t c.requires.settled c.args.number ls c.requires.labelled c.requires.current c.requires.arrives l at in
-    let from : get_or ls.hops l.from 0 ≡ hops_of ls l.from = from_read k laws s t c.requires.settled c.args.number ls c.requires.labelled c.requires.current c.requires.arrives l at in
-    let w = c.is_tight.ensures.0 c.if-is_tight.true in
-    let eh : get_or ls.hops c.from.result 0 + 1 ≡ hops_of ls l.to + 1 = ap (λ n. n + 1) to in
-    record { station = from_below k laws s t c.requires.settled c.args.number ls c.requires.labelled c.requires.current c.requires.arrives l at; room = put_room k laws s t c.requires.settled c.args.number ls c.requires.labelled c.requires.current c.requires.arrives l at w (get_or ls.hops c.from.result 0 + 1) eh }
+    record {
+      station = from_below k laws c.args.self.now c.args.table.now c.requires.settled c.args.label c.args.labels.now c.requires.labelled c.requires.current c.requires.arrives c.in-Some.leg (sym c.in-Some.ensures);
+      room = put_room k laws c.args.self.now c.args.table.now c.requires.settled c.args.label c.args.labels.now c.requires.labelled c.requires.current c.requires.arrives c.in-Some.leg (sym c.in-Some.ensures) (c.is_tight.ensures.0 c.if-is_tight.true);
+    }
 
 pub returns-then-is_tight : goal.returns-then-is_tight
 returns-then-is_tight g c =
     let k = g.K.CostModel.costs c.args.self.now.model.now in
     let laws = g.K.CostModel.laws c.args.self.now.model.now in
-    let s = c.args.self.now in
-    let t = c.args.table.now in
     let ls = c.args.labels.now in
-    let l = c.in-Some.leg in
-    let at = sym c.in-Some.ensures in
-    let to : get_or ls.hops c.from.result 0 ≡ hops_of ls l.to = ap (λ v. get_or ls.hops v 0) c.from.ensures ∙ to_read k laws s t c.requires.settled c.args.number ls c.requires.labelled c.requires.current c.requires.arrives l at in
-    let from : get_or ls.hops l.from 0 ≡ hops_of ls l.from = from_read k laws s t c.requires.settled c.args.number ls c.requires.labelled c.requires.current c.requires.arrives l at in
-    let w = c.is_tight.ensures.0 c.if-is_tight.true in
-    let eh : get_or ls.hops c.from.result 0 + 1 ≡ hops_of ls l.to + 1 = ap (λ n. n + 1) to in
-    let h = get_or ls.hops c.from.result 0 + 1 in
-    let so = better ls l.from h c.args.number (sym c.improves.ensures ∙ c.if-not-improves.false) in
-    let more : h ≤ hops_of ls l.from = either so (λ x. omega (arith, x, from)) (λ x. omega (arith, x.0, from)) in
-    let lower : hops_of ls l.from ≡ h → c.args.number ≤ first_of ls l.from = λ e. either so (λ x. absurd (omega (arith, x, from, e))) (λ x. omega (arith, x.1)) in
+    let tight = c.is_tight.ensures.0 c.if-is_tight.true in
+    let told = sym c.improves.ensures ∙ c.if-improves.true in
     record {
-      labelled = subst (λ xs. LabelledIn k s t ls.done (suc c.args.number) xs) (sym c.put.ensures) (put_labelled k laws s t c.requires.settled c.args.number ls c.requires.labelled c.requires.current c.requires.arrives l at w h eh more lower);
-      current = subst Current (sym c.put.ensures) (put_current k laws s t c.requires.settled c.args.number ls c.requires.labelled c.requires.current c.requires.arrives l at w h eh more);
+      labelled = subst (λ xs. LabelledIn k c.args.self.now c.args.table.now ls.done (suc c.args.label.first) xs) (sym c.put.ensures) (put_labelled k laws c.args.self.now c.args.table.now c.requires.settled c.args.label ls c.requires.labelled c.requires.current c.requires.arrives c.in-Some.leg (sym c.in-Some.ensures) tight told);
+      current = subst (Current c.args.label.hops) (sym c.put.ensures) (put_current k laws c.args.self.now c.args.table.now c.requires.settled c.args.label ls c.requires.labelled c.requires.current c.requires.arrives c.in-Some.leg (sym c.in-Some.ensures) tight told);
       done = ap (λ xs. xs.done) c.put.ensures;
-      station = ap (λ xs. line_of xs ls.done) c.put.ensures ∙ put_station k laws s t c.requires.settled c.args.number ls c.requires.labelled c.requires.current c.requires.arrives l at w h eh;
+      station = ap (λ xs. line_of xs ls.done) c.put.ensures ∙ put_station k laws c.args.self.now c.args.table.now c.requires.settled c.args.label ls c.requires.labelled c.requires.current c.requires.arrives c.in-Some.leg (sym c.in-Some.ensures) tight;
     }
 
-pub returns-else-is_tight : goal.returns-else-is_tight
-returns-else-is_tight g c =
+pub returns-else-improves-clause-labelled : goal.returns-else-improves-clause-labelled
+returns-else-improves-clause-labelled g c =
     let k = g.K.CostModel.costs c.args.self.now.model.now in
     let laws = g.K.CostModel.laws c.args.self.now.model.now in
-    let s = c.args.self.now in
-    let t = c.args.table.now in
-    let ls = c.args.labels.now in
-    let l = c.in-Some.leg in
-    let at = sym c.in-Some.ensures in
-    record {
-      labelled = naming_pass k laws s t c.requires.settled c.args.number ls c.requires.labelled c.requires.current c.requires.arrives l at (λ w. absurd (both_ways c.is_tight.result c.if-is_tight.false (c.is_tight.ensures.1 w)));
-      current = c.requires.current;
-      done = refl;
-      station = refl;
-    }
+    elim c.else-improves.branch [
+      | else-improves-via-then-improves+else-is_tight w ↦ naming_loose k laws c.args.self.now c.args.table.now c.requires.settled c.args.label c.args.labels.now c.requires.labelled c.requires.current c.requires.arrives c.in-Some.leg (sym c.in-Some.ensures) (λ tight. both_ways w.is_tight.result w.if-is_tight.false (w.is_tight.ensures.1 tight))
+      | else-improves-via-else-improves w ↦ naming_pass k laws c.args.self.now c.args.table.now c.requires.settled c.args.label c.args.labels.now c.requires.labelled c.requires.current c.requires.arrives c.in-Some.leg (sym c.in-Some.ensures) (sym c.improves.ensures ∙ w.if-improves.false)
+    ]
