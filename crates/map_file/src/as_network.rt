@@ -24,9 +24,7 @@ impl<'a> Network for Map<'a> {
         if number >= self.leg_count() {
             return None;
         }
-        match self.leg(number) {
-            Some(leg) if leg_fits(leg, self.station_count()) => Some(leg),
-            _ => None,
-        }
+        let stations = self.station_count();
+        self.leg(number).filter(|leg| leg_fits(*leg, stations))
     }
 }

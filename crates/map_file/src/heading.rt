@@ -7,6 +7,9 @@ use map_format::heading::Heading;
 use network::network::stations_fit;
 use network::refusal::Refusal;
 
+// How many bytes the heading takes.
+pub(crate) const HEADING_LEN: usize = 8;
+
 // Whether a map may have so many stations and legs.
 pub(crate) fn counts_fit(heading: Heading) -> bool
     ensures { result ≡ counts_fit heading }
@@ -18,7 +21,7 @@ pub(crate) fn counts_fit(heading: Heading) -> bool
 pub(crate) fn read_heading(bytes: &[u8]) -> Result<Heading, Refusal>
     ensures { result ≡ read_heading bytes.now }
 {
-    if bytes.len() < 8 {
+    if bytes.len() < HEADING_LEN {
         return Err(Refusal::CutShort);
     }
     let [b'L', b'P', b'N', rest @ ..] = bytes else {

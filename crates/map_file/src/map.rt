@@ -10,8 +10,8 @@ ghost use Rattle.map_file.specs.Steps.{left_in};
 ghost use Rattle.map_file.specs.Maps.{told, Indexed, encode_map, records_of, notices_of, leg_number};
 ghost use Rattle.map_file.specs.Writing.{write_answer, buffer_after};
 
-use crate::heading::read_heading;
-use crate::read::record_at;
+use crate::heading::{HEADING_LEN, read_heading};
+use crate::read::{LEG_LEN, record_at};
 use crate::rewrite::rewrite_file;
 use crate::walk::{Records, nth_record};
 use map_format::fault::Fault;
@@ -21,8 +21,8 @@ use map_format::record::{Placed, Record};
 use network::leg::Leg;
 use network::refusal::Refusal;
 
-// The bytes of a file, with where its legs and its notices begin. Nothing here is relied on: each call tests what it
-// reads.
+/// The bytes of a file, with where its legs and its notices begin. Nothing here is relied on: each call tests what it
+/// reads.
 #[derive(Clone, Copy, Debug)]
 pub struct Map<'a> {
     pub(crate) bytes: &'a [u8],
@@ -32,7 +32,7 @@ pub struct Map<'a> {
 }
 
 impl<'a> Map<'a> {
-    // The map in these bytes, or why and where they are refused.
+    /// The map in these bytes, or why and where they are refused.
     pub fn accept(bytes: &'a [u8]) -> Result<Map<'a>, Fault>
         ensures verdict { told result ≡ verdict bytes.now }
         ensures file { IfOk result (λ m. m.bytes.now ≡ bytes.now) }
@@ -42,7 +42,7 @@ impl<'a> Map<'a> {
     {
         let heading = read_heading(bytes).map_err(|why| Fault { why, place: 0 })?;
         let Heading { stations, legs } = heading;
-        let mut records = Records { bytes, at: 8 };
+        let mut records = Records::new(bytes, HEADING_LEN);
         records.pass_run(Kind::Station, stations, u16::from(stations))?;
         let legs_at = records.at;
         records.pass_run(Kind::Leg, stations, legs)?;
@@ -56,55 +56,50 @@ impl<'a> Map<'a> {
         })
     }
 
-    // How many stations and legs there are.
+    /// How many stations and legs there are.
     pub fn heading(&self) -> Heading
         ensures { result ≡ self.now.heading }
     {
         self.heading
     }
 
-    // All records in file order: stations, legs and notices.
+    /// All records in file order: stations, legs and notices.
     pub fn records(&self) -> Records<'a>
         ensures { left_in result ≡ records_of self.now }
     {
-        Records {
-            bytes: self.bytes,
-            at: 8,
-        }
+        Records::new(self.bytes, HEADING_LEN)
     }
 
-    // The notices alone.
+    /// The notices alone.
     pub fn notices(&self) -> Records<'a>
         ensures { left_in result ≡ notices_of self.now }
     {
-        Records {
-            bytes: self.bytes,
-            at: self.notices_at,
-        }
+        Records::new(self.bytes, self.notices_at)
     }
 
-    // A record by its number in file order; nothing past the last.
+    /// A record by its number in file order; nothing past the last.
     pub fn record(&self, number: usize) -> Option<Placed<'a>>
         ensures { option_map seen result ≡ slice_get (records_of self.now) number }
     {
         nth_record(self.records(), number)
     }
 
-    // A leg by its number, read in place; nothing past the last.
+    /// A leg by its number, read in place; nothing past the last.
     pub fn leg(&self, number: u16) -> Option<Leg>
         ensures { result ≡ leg_number self.now number }
     {
         if number >= self.heading.legs {
             return None;
         }
-        let place = self.legs_at.checked_add(7 * usize::from(number))?;
-        match record_at(self.bytes, place) {
-            Some((Record::Leg(leg), _)) => Some(leg),
-            _ => None,
-        }
+        // legs_at may be any number here, so the sum may not fit
+        let place = self.legs_at.checked_add(LEG_LEN * usize::from(number))?;
+        let (Record::Leg(leg), _) = record_at(self.bytes, place)? else {
+            return None;
+        };
+        Some(leg)
     }
 
-    // Writes heading and records into the front of a buffer.
+    /// Writes heading and records into the front of a buffer.
     pub fn rewrite(&self, out: &mut [u8]) -> Result<usize, Refusal>
         ensures law { RoundTrip }
         ensures answer { result ≡ write_answer None (encode_map self.now) out.old }

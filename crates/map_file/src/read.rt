@@ -14,6 +14,9 @@ use map_format::record::Record;
 use network::leg::Leg;
 use network::refusal::Refusal;
 
+// How many bytes a leg record takes.
+pub(crate) const LEG_LEN: usize = 7;
+
 // The leg record at an offset.
 fn leg_at(bytes: &[u8], at: usize) -> Leg
     requires { at + 7 ≤ length bytes.now }
@@ -51,10 +54,10 @@ pub(crate) fn whole_record(bytes: &[u8], at: usize, kind: Kind) -> Option<(Recor
             Some((Record::Station(name), end))
         }
         Kind::Leg => {
-            if bytes.len() - at < 7 {
+            if bytes.len() - at < LEG_LEN {
                 return None;
             }
-            Some((Record::Leg(leg_at(bytes, at)), at + 7))
+            Some((Record::Leg(leg_at(bytes, at)), at + LEG_LEN))
         }
         Kind::Notice => {
             let (text, end) = text_at(bytes, at)?;

@@ -5,6 +5,7 @@ ghost use Rattle.map_format.specs.Format.{encode_heading};
 ghost use Rattle.map_format.specs.Laws.{RoundTrip};
 ghost use Rattle.map_file.specs.Writing.{spliced, write_answer, buffer_after};
 
+use crate::heading::HEADING_LEN;
 use crate::read::record_at;
 use crate::write::{put_heading, put_record};
 use map_format::heading::Heading;
@@ -14,7 +15,7 @@ use network::refusal::Refusal;
 fn rewritten_len(bytes: &[u8]) -> usize
     ensures { result ≡ 8 + length (encode_records (records_from bytes.now 8)) }
 {
-    let mut at = 8;
+    let mut at = HEADING_LEN;
     while let Some((_, end)) = record_at(bytes, at) {
         at = end;
     }
@@ -26,7 +27,7 @@ fn put_records(bytes: &[u8], out: &mut [u8])
     requires { 8 + length (encode_records (records_from bytes.now 8)) ≤ length out.old }
     ensures { out.new ≡ spliced out.old 8 (encode_records (records_from bytes.now 8)) }
 {
-    let mut at = 8;
+    let mut at = HEADING_LEN;
     while let Some((what, end)) = record_at(bytes, at) {
         put_record(what, out, at);
         at = end;

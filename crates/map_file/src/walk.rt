@@ -9,12 +9,22 @@ ghost use Rattle.std.specs.Iterator.{at_most};
 use crate::read::record_at;
 use map_format::record::Placed;
 
-// What is left to walk: the records of the bytes from an offset on, each of the kind that its kind byte says, up to the
-// end or to what is no record.
+/// What is left to walk: the records of the bytes from an offset on, each of the kind that its kind byte says, up to the
+/// end or to what is no record.
 #[derive(Clone, Copy, Debug)]
 pub struct Records<'a> {
     pub(crate) bytes: &'a [u8],
     pub(crate) at: usize,
+}
+
+impl<'a> Records<'a> {
+    // The records of a file from an offset on.
+    pub(crate) fn new(bytes: &'a [u8], at: usize) -> Records<'a>
+        ensures bytes { result.bytes ≡ bytes.entry }
+        ensures at { result.at ≡ at }
+    {
+        Records { bytes, at }
+    }
 }
 
 impl<'a> Iterator for Records<'a> {

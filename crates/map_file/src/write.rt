@@ -4,8 +4,9 @@ ghost use Rattle.map_format.specs.Format.{station, leg as leg_item, notice, enco
 ghost use Rattle.map_format.specs.Views.{said};
 ghost use Rattle.map_file.specs.Writing.{heading_refusal, record_refusal, leg_refusal, write_answer, buffer_after, spliced, Short};
 
-use crate::fields::{leg_fits, name_fits, notice_fits};
-use crate::heading::counts_fit;
+use crate::fields::fits;
+use crate::heading::{HEADING_LEN, counts_fit};
+use crate::read::LEG_LEN;
 use map_format::heading::Heading;
 use map_format::kind::Kind;
 use map_format::record::Record;
@@ -71,21 +72,34 @@ pub(crate) fn put_record(what: Record<'_>, out: &mut [u8], at: usize)
     }
 }
 
-// Writes a name or a notice behind its kind byte and its length, where there is room.
-fn write_text(kind: Kind, text: &[u8], out: &mut [u8]) -> Result<usize, Refusal>
-    requires { length text.now < 256 }
-    ensures answer { result ≡ write_answer None (encode_text kind text.now) out.old }
-    ensures after { out.new ≡ buffer_after result (encode_text kind text.now) out.old }
+// How many bytes a record takes.
+fn size_of(what: Record<'_>) -> usize
+    requires { Short (said what) }
+    ensures { result ≡ size (said what.entry) }
 {
-    let size = 2 + text.len();
+    match what {
+        Record::Station(text) | Record::Notice(text) => 2 + text.len(),
+        Record::Leg(_) => LEG_LEN,
+    }
+}
+
+// Writes a record of a map of so many stations, where its fields fit and there is room.
+fn write_record(what: Record<'_>, stations: u8, out: &mut [u8]) -> Result<usize, Refusal>
+    ensures answer { result ≡ write_answer (record_refusal stations (said what.entry)) (encode (said what.entry)) out.old }
+    ensures after { out.new ≡ buffer_after result (encode (said what.entry)) out.old }
+{
+    if !fits(what, stations) {
+        return Err(Refusal::FieldOutOfRange);
+    }
+    let size = size_of(what);
     if out.len() < size {
         return Err(Refusal::ShortBuffer);
     }
-    put_text(kind, text, out, 0);
+    put_record(what, out, 0);
     Ok(size)
 }
 
-// Writes a heading whose counts are in range.
+/// Writes a heading whose counts are in range.
 pub fn write_heading(heading: Heading, out: &mut [u8]) -> Result<usize, Refusal>
     ensures answer { result ≡ write_answer (heading_refusal heading) (encode_heading heading) out.old }
     ensures after { out.new ≡ buffer_after result (encode_heading heading) out.old }
@@ -93,25 +107,23 @@ pub fn write_heading(heading: Heading, out: &mut [u8]) -> Result<usize, Refusal>
     if !counts_fit(heading) {
         return Err(Refusal::CountOutOfRange);
     }
-    if out.len() < 8 {
+    if out.len() < HEADING_LEN {
         return Err(Refusal::ShortBuffer);
     }
     put_heading(heading, out);
-    Ok(8)
+    Ok(HEADING_LEN)
 }
 
-// Writes a station by its name.
+/// Writes a station by its name.
 pub fn write_station(name: &[u8], out: &mut [u8]) -> Result<usize, Refusal>
     ensures answer { result ≡ write_answer (record_refusal 0 (station name.now)) (encode (station name.now)) out.old }
     ensures after { out.new ≡ buffer_after result (encode (station name.now)) out.old }
 {
-    if !name_fits(name) {
-        return Err(Refusal::FieldOutOfRange);
-    }
-    write_text(Kind::Station, name, out)
+    // a name fits or not for any count of stations
+    write_record(Record::Station(name), 0, out)
 }
 
-// Writes a leg of a map of so many stations.
+/// Writes a leg of a map of so many stations.
 pub fn write_leg(leg: Leg, stations: u8, out: &mut [u8]) -> Result<usize, Refusal>
     ensures answer { result ≡ write_answer (leg_refusal stations leg) (encode (leg_item leg)) out.old }
     ensures after { out.new ≡ buffer_after result (encode (leg_item leg)) out.old }
@@ -119,23 +131,14 @@ pub fn write_leg(leg: Leg, stations: u8, out: &mut [u8]) -> Result<usize, Refusa
     if !stations_fit(stations) {
         return Err(Refusal::CountOutOfRange);
     }
-    if !leg_fits(leg, stations) {
-        return Err(Refusal::FieldOutOfRange);
-    }
-    if out.len() < 7 {
-        return Err(Refusal::ShortBuffer);
-    }
-    put_leg(leg, out, 0);
-    Ok(7)
+    write_record(Record::Leg(leg), stations, out)
 }
 
-// Writes a notice by its text.
+/// Writes a notice by its text.
 pub fn write_notice(text: &[u8], out: &mut [u8]) -> Result<usize, Refusal>
     ensures answer { result ≡ write_answer (record_refusal 0 (notice text.now)) (encode (notice text.now)) out.old }
     ensures after { out.new ≡ buffer_after result (encode (notice text.now)) out.old }
 {
-    if !notice_fits(text) {
-        return Err(Refusal::FieldOutOfRange);
-    }
-    write_text(Kind::Notice, text, out)
+    // so does a notice
+    write_record(Record::Notice(text), 0, out)
 }

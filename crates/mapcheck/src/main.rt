@@ -34,49 +34,39 @@ impl fmt::Display for Text<'_> {
 fn first_difference(a: &[u8], b: &[u8]) -> Option<usize>
     ensures { Compared a.now b.now result }
 {
-    let shorter = a.len().min(b.len());
-    for i in 0..shorter {
-        if a[i] != b[i] {
-            return Some(i);
-        }
-    }
-    if a.len() == b.len() {
-        None
-    } else {
-        Some(shorter)
-    }
+    let end = (a.len() != b.len()).then_some(a.len().min(b.len()));
+    a.iter().zip(b).position(|(x, y)| x != y).or(end)
 }
 
-// One line for a record. Stations and legs are numbered in file order, each from 0.
-fn print_record<W: Write>(
-    out: &mut W,
+// A record's line. Stations and legs are numbered in file order, each from 0.
+#[derive(Clone, Copy)]
+struct Line<'a> {
     number: usize,
     stations: u8,
-    placed: Placed<'_>,
-) -> io::Result<()> {
-    let place = placed.place;
-    match placed.record {
-        Record::Station(name) => {
-            let name = Text(name);
-            writeln!(out, "station {number} at {place}: {name}")
-        }
-        Record::Leg(leg) => {
-            let number = number.saturating_sub(usize::from(stations));
-            let Leg {
-                from,
-                to,
-                seconds,
-                points,
-                grade,
-            } = leg;
-            writeln!(
-                out,
-                "leg {number} at {place}: {from} to {to}, {seconds} s, {points} points, grade {grade}"
-            )
-        }
-        Record::Notice(text) => {
-            let text = Text(text);
-            writeln!(out, "notice at {place}: {text}")
+    placed: Placed<'a>,
+}
+
+impl fmt::Display for Line<'_> {
+    fn fmt<W: fmt::Write>(&self, f: &mut fmt::Formatter<W>) -> fmt::Result {
+        let number = self.number;
+        let Placed { place, record } = self.placed;
+        match record {
+            Record::Station(name) => write!(f, "station {number} at {place}: {}", Text(name)),
+            Record::Leg(leg) => {
+                let number = number.saturating_sub(usize::from(self.stations));
+                let Leg {
+                    from,
+                    to,
+                    seconds,
+                    points,
+                    grade,
+                } = leg;
+                write!(
+                    f,
+                    "leg {number} at {place}: {from} to {to}, {seconds} s, {points} points, grade {grade}"
+                )
+            }
+            Record::Notice(text) => write!(f, "notice at {place}: {}", Text(text)),
         }
     }
 }
@@ -90,7 +80,12 @@ fn print_map<W: Write>(out: &mut W, map: &Map<'_>) -> io::Result<()> {
         "accepted: {stations} stations, {legs} legs, {notices} notices"
     )?;
     for (number, placed) in map.records().enumerate() {
-        print_record(out, number, stations, placed)?;
+        let line = Line {
+            number,
+            stations,
+            placed,
+        };
+        writeln!(out, "{line}")?;
     }
     Ok(())
 }

@@ -1,23 +1,15 @@
-use Rattle.std.proofs.Common.{◌≡◌, take, subst, arith}
-use Rattle.std.proofs.lemmas.List.{take_more_same}
-use Rattle.mapcheck.proofs.Compares.{differ_inside, differ_end, same_whole}
+use Rattle.std.proofs.Common.{◌≡◌, min, not, eqb, length, refl, rules, tests}
+use Rattle.std.proofs.lemmas.Iterator.{YieldsList-from_slice, YieldsList-from_zip}
+use Rattle.std.proofs.lemmas.Iterator.Search.{position_from_yields_List}
+use Rattle.std.specs.Bool.{then_some}
+use Rattle.std.specs.Option.{option_or}
+use Rattle.mapcheck.proofs.Compares.{differs, compared}
 use Rattle.mapcheck.proofs.first_difference.Goals as goal
 
-pub returns-then-a-i : goal.returns-then-a-i
-returns-then-a-i c =
-    (c.loop-i.invariant, differ_inside c.args.a.now c.args.b.now c.loop-i.i (omega arith) (omega arith) c.if-a-i.true)
-
-pub loop-i-preserved : goal.loop-i-preserved
-loop-i-preserved c =
-    take_more_same c.args.a.now c.args.b.now c.loop-i.i 0 (omega arith) (omega arith) c.loop-i.invariant c.if-a-i.false
-
-pub returns-then-a-b : goal.returns-then-a-b
-returns-then-a-b c =
-    same_whole c.args.a.now c.args.b.now c.loop-i.i (omega arith) (omega arith) c.loop-i.invariant
-
-pub returns-else-a-b : goal.returns-else-a-b
-returns-else-a-b c =
-    let end : c.loop-i.i ≡ c.min-shorter.result = omega arith in (
-      subst (λ k. take k c.args.a.now ≡ take k c.args.b.now) end c.loop-i.invariant,
-      differ_end c.args.a.now c.args.b.now c.min-shorter.result c.min-shorter.ensures c.if-a-b.false,
-    )
+pub returns : goal.returns
+returns c =
+    let a = c.args.a.now in
+    let b = c.args.b.now in
+    let found = position_from_yields_List differs c.position.new.self _ c.position.result c.position.ensures.ran (YieldsList-from_zip (YieldsList-from_slice a cc) (YieldsList-from_slice b cc)) (λ x b q k. search (rules, tests)) in
+    let is : c.or.result ≡ option_or c.position.result (then_some (not (eqb (length a) (length b))) (min (length a) (length b))) = search rules in
+    rw is (compared a b c.position.result found _ refl)

@@ -9,10 +9,11 @@ pub returns : goal.returns
 returns c =
     let heading = c.in_ok-heading.heading in
     let m : Map = record { bytes = c.args.bytes; heading = heading; legs_at = c.pass_run.new.self.at; notices_at = c.pass_run-2.new.self.at } in
-    let same = c.pass_run.ensures.same in
+    let begun = c.new-records.ensures in
+    let same = c.pass_run.ensures.same ∙ begun.bytes in
     let t : Tested m c.pass_notices.new.self.at = record {
       heading_read = search rules;
-      stations_end = c.in_ok-pass_run.ensures.end ∙ ap (λ k. end_of (run StationKind heading.stations c.args.bytes.now k 8)) c.from.ensures;
+      stations_end = rw (begun.bytes, begun.at) at c.in_ok-pass_run.ensures.end ∙ ap (λ k. end_of (run StationKind heading.stations c.args.bytes.now k 8)) c.from.ensures;
       legs_end = rw same at c.in_ok-pass_run-2.ensures.end;
       notices_end = rw (c.pass_run-2.ensures.same ∙ same) at c.in_ok-pass_notices.ensures;
     } in
