@@ -13,7 +13,7 @@ use search_types::ends::Ends;
 fn ride_on(file: &[u8], ranking: Ranking, ends: Ends) -> Result<Ride, Refusal>
     ensures { OnMap ranking (verdict file.now) ends.start ends.goal result }
 {
-    let map = Map::accept(file).map_err(|fault| fault.why)?;
+    let map = Map::accept(file)?;
     ranked_ride(&map, ranking, ends)
 }
 

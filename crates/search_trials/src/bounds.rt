@@ -1,15 +1,13 @@
 // Cases at the bounds, each by itself, put to the search and to the trial of all lists.
-use crate::question::{Question, check_answer};
+use crate::question::Question;
 use crate::table::Table;
 use crate::trial::answer_by_trial;
 use cost::seconds::Seconds;
 use network::leg::Leg;
 use network::refusal::Refusal;
-use search_types::bars::Bars;
+use network::refusal::Refusal::{NoFurtherRoute, NoSuchStation, SameStation, ShortWorkspace};
 use search_types::entry::Entry;
 use search_types::leg_list::LegList;
-use std::alloc::Global;
-use std::process::Abort;
 use std::test::Fail;
 
 const fn leg(from: u8, to: u8, seconds: u16) -> Leg {
@@ -38,95 +36,78 @@ fn legs() -> [Leg; 9] {
     ]
 }
 
-const NO_STATION: u8 = 64;
-
-const NO_NUMBER: u16 = 512;
-
 // Start, goal, a barred station, a barred leg, the places of the workspace, and what comes.
-const CASES: [(u8, u8, u8, u16, usize, Result<&[u16], Refusal>); 26] = [
+type Case = (
+    u8,
+    u8,
+    Option<u8>,
+    Option<u16>,
+    usize,
+    Result<&'static [u16], Refusal>,
+);
+
+const CASES: [Case; 28] = [
     // of two parallel legs the lower number; the self-loop is never used
-    (0, 1, NO_STATION, NO_NUMBER, 10, Ok(&[1])),
-    (0, 1, NO_STATION, 1, 10, Ok(&[2])),
-    (0, 1, NO_STATION, 0, 10, Ok(&[1])),
+    (0, 1, None, None, 10, Ok(&[1])),
+    (0, 1, None, Some(1), 10, Ok(&[2])),
+    (0, 1, None, Some(0), 10, Ok(&[1])),
     // at equal cost fewer legs
-    (0, 2, NO_STATION, NO_NUMBER, 10, Ok(&[4])),
-    (0, 2, NO_STATION, 4, 10, Ok(&[1, 3])),
+    (0, 2, None, None, 10, Ok(&[4])),
+    (0, 2, None, Some(4), 10, Ok(&[1, 3])),
     // at equal cost and as many legs the lower number at the first difference
-    (0, 3, NO_STATION, NO_NUMBER, 10, Ok(&[1, 6])),
-    (0, 3, NO_STATION, 1, 10, Ok(&[2, 6])),
-    (0, 3, 1, NO_NUMBER, 10, Ok(&[4, 5])),
-    (0, 4, 2, NO_NUMBER, 10, Ok(&[1, 6, 8])),
-    (0, 4, NO_STATION, 6, 10, Ok(&[4, 5, 8])),
+    (0, 3, None, None, 10, Ok(&[1, 6])),
+    (0, 3, None, Some(1), 10, Ok(&[2, 6])),
+    (0, 3, Some(1), None, 10, Ok(&[4, 5])),
+    (0, 4, Some(2), None, 10, Ok(&[1, 6, 8])),
+    (0, 4, None, Some(6), 10, Ok(&[4, 5, 8])),
     // nothing leads there, or all that does is barred
-    (
-        4,
-        0,
-        NO_STATION,
-        NO_NUMBER,
-        10,
-        Err(Refusal::NoFurtherRoute),
-    ),
-    (0, 4, NO_STATION, 8, 10, Err(Refusal::NoFurtherRoute)),
-    (0, 4, 3, NO_NUMBER, 10, Err(Refusal::NoFurtherRoute)),
-    (0, 4, 0, NO_NUMBER, 10, Err(Refusal::NoFurtherRoute)),
-    (0, 4, 4, NO_NUMBER, 10, Err(Refusal::NoFurtherRoute)),
+    (4, 0, None, None, 10, Err(NoFurtherRoute)),
+    (0, 4, None, Some(8), 10, Err(NoFurtherRoute)),
+    (0, 4, Some(3), None, 10, Err(NoFurtherRoute)),
+    (0, 4, Some(0), None, 10, Err(NoFurtherRoute)),
+    (0, 4, Some(4), None, 10, Err(NoFurtherRoute)),
+    // there is no station 64 and no leg 512 to bar
+    (0, 4, Some(64), None, 10, Ok(&[1, 6, 8])),
+    (0, 4, None, Some(512), 10, Ok(&[1, 6, 8])),
     // workspaces about the count of stations
-    (0, 4, NO_STATION, NO_NUMBER, 5, Ok(&[1, 6, 8])),
-    (0, 4, NO_STATION, 8, 5, Err(Refusal::NoFurtherRoute)),
-    (0, 4, NO_STATION, NO_NUMBER, 4, Err(Refusal::ShortWorkspace)),
-    (0, 4, 4, NO_NUMBER, 0, Err(Refusal::ShortWorkspace)),
+    (0, 4, None, None, 5, Ok(&[1, 6, 8])),
+    (0, 4, None, Some(8), 5, Err(NoFurtherRoute)),
+    (0, 4, None, None, 4, Err(ShortWorkspace)),
+    (0, 4, Some(4), None, 0, Err(ShortWorkspace)),
     // the order of the refusals
-    (4, 4, 4, NO_NUMBER, 4, Err(Refusal::SameStation)),
-    (4, 4, NO_STATION, NO_NUMBER, 10, Err(Refusal::SameStation)),
-    (5, 5, NO_STATION, NO_NUMBER, 4, Err(Refusal::NoSuchStation)),
-    (5, 0, NO_STATION, NO_NUMBER, 4, Err(Refusal::NoSuchStation)),
-    (0, 5, 0, NO_NUMBER, 10, Err(Refusal::NoSuchStation)),
-    (
-        0,
-        64,
-        NO_STATION,
-        NO_NUMBER,
-        10,
-        Err(Refusal::NoSuchStation),
-    ),
-    (
-        255,
-        255,
-        NO_STATION,
-        NO_NUMBER,
-        0,
-        Err(Refusal::NoSuchStation),
-    ),
+    (4, 4, Some(4), None, 4, Err(SameStation)),
+    (4, 4, None, None, 10, Err(SameStation)),
+    (5, 5, None, None, 4, Err(NoSuchStation)),
+    (5, 0, None, None, 4, Err(NoSuchStation)),
+    (0, 5, Some(0), None, 10, Err(NoSuchStation)),
+    (0, 64, None, None, 10, Err(NoSuchStation)),
+    (255, 255, None, None, 0, Err(NoSuchStation)),
 ];
 
-fn check_cases(rt: &impl Abort, heap: Global, workspace: &mut [Entry<u32>]) -> Result<(), Fail> {
+#[test]
+fn at_bounds(rt: HostRuntime) -> Result<(), Fail> {
     let legs = legs();
     let network = Table {
         stations: 5,
         legs: &legs,
     };
-    let mut route = LegList::new();
-    for (start, goal, station, number, places, expected) in CASES {
-        let mut bars = Bars::none();
-        bars.bar_station(station);
-        bars.bar_leg(number);
-        let question = Question { bars, start, goal };
-        assert!(rt; places <= workspace.len());
-        let lent = &mut workspace[0..places];
-        check_answer(rt, &network, &Seconds, question, lent, &mut route, expected);
-        match answer_by_trial(heap, &network, &Seconds, &question, places)? {
-            Ok(legs) => assert_eq!(rt; Ok(legs.as_slice()), expected),
-            Err(why) => assert_eq!(rt; Err(why), expected),
-        }
-    }
-    Ok(())
-}
-
-#[test]
-fn at_bounds(rt: HostRuntime) -> Result<(), Fail> {
     let mut workspace = [Entry {
         cost: 0,
         station: 0,
     }; 10];
-    check_cases(&rt, rt.alloc(), &mut workspace)
+    let mut route = LegList::new();
+    for (start, goal, station, leg, places, expected) in CASES {
+        let mut question = Question::new(network, Seconds, start, goal);
+        if let Some(station) = station {
+            question.bars.bar_station(station);
+        }
+        if let Some(leg) = leg {
+            question.bars.bar_leg(leg);
+        }
+        assert!(rt; places <= 10);
+        question.check(&rt, &mut workspace[..places], &mut route, expected);
+        let tried = answer_by_trial(rt.alloc(), &question, places)?;
+        assert_eq!(rt; tried.as_deref().map_err(|why| *why), expected);
+    }
+    Ok(())
 }

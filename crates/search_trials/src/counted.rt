@@ -4,9 +4,9 @@ ghost use Rattle.search_trials.specs.Counted.{counted, counted_laws};
 use cost::model::CostModel;
 use network::leg::Leg;
 
-// 64 for each second and 1 for each leg, so that the remainder by 64 is the count of legs. What would stand for more than
-// 63 of them comes out as 0, ahead of every other cost, as a model is free to do: a search that joins so far and goes
-// by the answer is misled.
+/// 64 for each second and 1 for each leg, so that the remainder by 64 is the count of legs. What would stand for more than
+/// 63 of them comes out as 0, ahead of every other cost, as a model is free to do: a search that joins so far and goes
+/// by the answer is misled.
 #[derive(Clone, Copy, Debug)]
 pub struct Counted;
 

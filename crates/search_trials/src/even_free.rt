@@ -4,8 +4,8 @@ ghost use Rattle.search_trials.specs.EvenFree.{even_free, even_free_laws};
 use cost::model::CostModel;
 use network::leg::Leg;
 
-// Adds the seconds of legs with an odd number of them; every other leg costs nothing, so that a longer way may cost as
-// much as a part of it.
+/// Adds the seconds of legs with an odd number of them; every other leg costs nothing, so that a longer way may cost as
+/// much as a part of it.
 #[derive(Clone, Copy, Debug)]
 pub struct EvenFree;
 

@@ -1,19 +1,18 @@
 // Small networks with few different costs, so that ties abound, asked for all ends.
 use crate::counted::Counted;
 use crate::even_free::EvenFree;
-use crate::question::{Question, check_answer};
+use crate::question::Question;
 use crate::table::{NO_LEG, Table};
 use crate::trial::answer_by_trial;
-use cost::fare::Fare;
 use cost::model::CostModel;
 use cost::points::PointsThenSeconds;
 use cost::seconds::Seconds;
 use network::leg::Leg;
-use network::refusal::Refusal;
 use search_types::bars::Bars;
 use search_types::entry::Entry;
 use search_types::leg_list::LegList;
 use std::alloc::Global;
+use std::array;
 use std::process::Abort;
 use std::test::Fail;
 
@@ -50,14 +49,10 @@ impl Dice {
 
     // Twelve leg numbers; all seconds are alike in some turns, and in some of these even.
     fn legs(&mut self, stations: u8, turn: u8) -> [Leg; 12] {
-        let mut legs = [NO_LEG; 12];
-        for place in legs.iter_mut() {
-            *place = self.leg(stations, 1 + turn / 4 % 2, 1 + turn / 8 % 3);
-        }
-        legs
+        array::from_fn(|_| self.leg(stations, 1 + turn / 4 % 2, 1 + turn / 8 % 3))
     }
 
-    // Legs and stations in turn, any of which may be an end.
+    // Legs and stations in turn, any of which may be an end. No chain says plainer whose turn it is.
     fn bars(&mut self, stations: u8, count: u8) -> Bars {
         let mut bars = Bars::none();
         for kind in 0..count {
@@ -71,94 +66,79 @@ impl Dice {
     }
 }
 
-fn lent(tried: &Result<Vec<u16>, Refusal>) -> Result<&[u16], Refusal> {
-    match tried {
-        Ok(legs) => Ok(legs.as_slice()),
-        Err(why) => Err(*why),
-    }
-}
-
-// Every pair of ends below 7, equal ones and those past the last station too.
-fn check_ends<K: CostModel>(
+// From a station to every one below 7, that station and those past the last too.
+fn check_from<K: CostModel>(
     rt: &impl Abort,
     heap: Global,
-    network: &Table<'_>,
-    model: &K,
-    bars: Bars,
+    question: &mut Question<'_, K>,
     workspace: &mut [Entry<K::Cost>],
+    route: &mut LegList,
 ) -> Result<(), Fail> {
-    let mut route = LegList::new();
-    for pair in 0..49u8 {
-        let question = Question {
-            bars,
-            start: pair / 7,
-            goal: pair % 7,
-        };
-        let tried = answer_by_trial(heap, network, model, &question, workspace.len())?;
-        let expected = lent(&tried);
-        check_answer(
-            rt, network, model, question, workspace, &mut route, expected,
-        );
+    for goal in 0..7 {
+        question.ends.goal = goal;
+        let tried = answer_by_trial(heap, question, workspace.len())?;
+        question.check(rt, workspace, route, tried.as_deref().map_err(|why| *why));
     }
     Ok(())
 }
 
-fn check_networks<K: CostModel>(
+// Every pair of ends below 7.
+fn check_ends<K: CostModel>(
     rt: &impl Abort,
     heap: Global,
-    model: &K,
+    question: &mut Question<'_, K>,
     workspace: &mut [Entry<K::Cost>],
 ) -> Result<(), Fail> {
+    let mut route = LegList::new();
+    for start in 0..7 {
+        question.ends.start = start;
+        check_from(rt, heap, question, workspace, &mut route)?;
+    }
+    Ok(())
+}
+
+fn check_networks<K: CostModel + Copy>(
+    rt: &impl Abort,
+    heap: Global,
+    model: K,
+) -> Result<(), Fail> {
+    let blank = Entry {
+        cost: model.zero(),
+        station: 0,
+    };
+    // an array of any model's costs is not known to fit in memory
+    let mut workspace = vec![in heap; blank; 8]?;
     let mut dice = Dice { state: 2_026 };
     for turn in 0..120u8 {
         let stations = dice.throw(5).saturating_add(2);
         let legs = dice.legs(stations, turn);
-        let bars = dice.bars(stations, turn % 4);
         let network = Table {
             stations,
             legs: &legs,
         };
-        check_ends(rt, heap, &network, model, bars, workspace)?;
+        let mut question = Question::new(network, model, 0, 0);
+        question.bars = dice.bars(stations, turn % 4);
+        check_ends(rt, heap, &mut question, &mut workspace)?;
     }
     Ok(())
 }
 
 #[test]
 fn by_seconds(rt: HostRuntime) -> Result<(), Fail> {
-    let mut workspace = [Entry {
-        cost: 0,
-        station: 0,
-    }; 8];
-    check_networks(&rt, rt.alloc(), &Seconds, &mut workspace)
+    check_networks(&rt, rt.alloc(), Seconds)
 }
 
 #[test]
 fn by_points(rt: HostRuntime) -> Result<(), Fail> {
-    let free = Fare {
-        points: 0,
-        seconds: 0,
-    };
-    let mut workspace = [Entry {
-        cost: free,
-        station: 0,
-    }; 8];
-    check_networks(&rt, rt.alloc(), &PointsThenSeconds, &mut workspace)
+    check_networks(&rt, rt.alloc(), PointsThenSeconds)
 }
 
 #[test]
 fn with_free_legs(rt: HostRuntime) -> Result<(), Fail> {
-    let mut workspace = [Entry {
-        cost: 0,
-        station: 0,
-    }; 8];
-    check_networks(&rt, rt.alloc(), &EvenFree, &mut workspace)
+    check_networks(&rt, rt.alloc(), EvenFree)
 }
 
 #[test]
 fn with_counted_legs(rt: HostRuntime) -> Result<(), Fail> {
-    let mut workspace = [Entry {
-        cost: 0,
-        station: 0,
-    }; 8];
-    check_networks(&rt, rt.alloc(), &Counted, &mut workspace)
+    check_networks(&rt, rt.alloc(), Counted)
 }

@@ -1,7 +1,7 @@
 // What a search is asked, and how its answer is compared with the expected one.
+use crate::table::Table;
 use cost::model::CostModel;
 use network::leg::Leg;
-use network::network::Network;
 use network::refusal::Refusal;
 use search::least::least_route;
 use search_types::bars::Bars;
@@ -10,11 +10,13 @@ use search_types::entry::Entry;
 use search_types::leg_list::LegList;
 use std::process::Abort;
 
+// The least route from a station to another, on a network, by a cost model, under bars.
 #[derive(Clone, Copy)]
-pub(crate) struct Question {
+pub(crate) struct Question<'a, K> {
+    pub(crate) network: Table<'a>,
+    pub(crate) model: K,
     pub(crate) bars: Bars,
-    pub(crate) start: u8,
-    pub(crate) goal: u8,
+    pub(crate) ends: Ends,
 }
 
 // Its cost fills the workspace before a search: above zero by every model.
@@ -26,61 +28,59 @@ const SOIL: Leg = Leg {
     grade: 0,
 };
 
-// Asks the search, with a workspace that holds no zero. The answer, the route and every entry have to be as expected: at
-// a refusal the route is as before, and so is the workspace but at 14.
-pub(crate) fn check_answer<N: Network, K: CostModel>(
-    rt: &impl Abort,
-    network: &N,
-    model: &K,
-    question: Question,
-    workspace: &mut [Entry<K::Cost>],
-    route: &mut LegList,
-    expected: Result<&[u16], Refusal>,
-) {
-    let Question { bars, start, goal } = question;
-    let soiled = Entry {
-        cost: model.of_leg(SOIL),
-        station: 200,
-    };
-    fill(workspace, soiled);
-    let old = *route;
-    let ends = Ends { start, goal };
-    let answer = least_route(network, model, &bars, ends, workspace, route);
-    match expected {
-        Ok(legs) => {
-            assert_eq!(rt; answer, Ok(()));
-            assert_eq!(rt; route.legs(), legs);
-        }
-        Err(why) => {
-            assert_eq!(rt; answer, Err(why));
-            assert_eq!(rt; route.legs(), old.legs());
+impl<'a, K: CostModel> Question<'a, K> {
+    // With nothing barred.
+    pub(crate) fn new(network: Table<'a>, model: K, start: u8, goal: u8) -> Self {
+        Question {
+            network,
+            model,
+            bars: Bars::none(),
+            ends: Ends { start, goal },
         }
     }
-    let held = match answer {
-        Ok(()) | Err(Refusal::NoFurtherRoute) => Entry {
-            cost: model.zero(),
-            station: 0,
-        },
-        Err(_) => soiled,
-    };
-    assert!(rt; all_hold(model, workspace, held));
-}
 
-fn fill<C: Copy>(workspace: &mut [Entry<C>], soiled: Entry<C>) {
-    for place in workspace.iter_mut() {
-        *place = soiled;
+    // Asks the search, with a workspace that holds no zero. The answer, the route and every entry have to be as expected: at
+    // a refusal the route is as before, and so is the workspace, but where there is no further route.
+    pub(crate) fn check(
+        &self,
+        rt: &impl Abort,
+        workspace: &mut [Entry<K::Cost>],
+        route: &mut LegList,
+        expected: Result<&[u16], Refusal>,
+    ) {
+        let soiled = Entry {
+            cost: self.model.of_leg(SOIL),
+            station: 200,
+        };
+        // `fill` asks for a clone that cannot fail, which `Copy` does not say
+        workspace.fill_with(|| soiled);
+        let old = *route;
+        let answer = least_route(
+            &self.network,
+            &self.model,
+            &self.bars,
+            self.ends,
+            workspace,
+            route,
+        );
+        assert_eq!(rt; answer, expected.map(|_| ()));
+        assert_eq!(rt; route.legs(), expected.unwrap_or(old.legs()));
+        let held = match answer {
+            Ok(()) | Err(Refusal::NoFurtherRoute) => Entry {
+                cost: self.model.zero(),
+                station: 0,
+            },
+            Err(_) => soiled,
+        };
+        assert!(rt;
+            workspace
+                .iter()
+                .all(|place| is_same(&self.model, *place, held))
+        );
     }
 }
 
 // Of two costs neither comes before the other exactly where they are equal.
-fn all_hold<K: CostModel>(model: &K, workspace: &[Entry<K::Cost>], held: Entry<K::Cost>) -> bool {
-    for place in workspace {
-        if model.before(place.cost, held.cost) || model.before(held.cost, place.cost) {
-            return false;
-        }
-        if place.station != held.station {
-            return false;
-        }
-    }
-    true
+fn is_same<K: CostModel>(model: &K, a: Entry<K::Cost>, b: Entry<K::Cost>) -> bool {
+    a.station == b.station && !model.before(a.cost, b.cost) && !model.before(b.cost, a.cost)
 }

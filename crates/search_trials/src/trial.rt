@@ -12,50 +12,40 @@ use std::test::Fail;
 const MOST_TRIED: u32 = 1_000_000;
 
 // The route or the refusal, for a workspace of so many places.
-pub(crate) fn answer_by_trial<N: Network, K: CostModel>(
+pub(crate) fn answer_by_trial<K: CostModel>(
     heap: Global,
-    network: &N,
-    model: &K,
-    question: &Question,
+    question: &Question<'_, K>,
     places: usize,
 ) -> Result<Result<Vec<u16>, Refusal>, Fail> {
-    let stations = network.station_count();
-    if question.start >= stations || question.goal >= stations {
+    let stations = question.network.station_count();
+    if question.ends.start >= stations || question.ends.goal >= stations {
         return Ok(Err(Refusal::NoSuchStation));
     }
-    if question.start == question.goal {
+    if question.ends.start == question.ends.goal {
         return Ok(Err(Refusal::SameStation));
     }
     if places < usize::from(stations) {
         return Ok(Err(Refusal::ShortWorkspace));
     }
-    let least = least_by_trial(heap, network, model, question)?;
-    if least.is_empty() {
-        return Ok(Err(Refusal::NoFurtherRoute));
-    }
-    Ok(Ok(least))
+    Ok(least_by_trial(heap, question)?.ok_or(Refusal::NoFurtherRoute))
 }
 
-// The least of all routes; no leg where there is none. A list is made longer only while it is a loopless way from the
-// start: no list that begins otherwise is a route.
-fn least_by_trial<N: Network, K: CostModel>(
+// The least of all routes, where there is one. A list is made longer only while it is a loopless way from the start: no list
+// that begins otherwise is a route.
+fn least_by_trial<K: CostModel>(
     heap: Global,
-    network: &N,
-    model: &K,
-    question: &Question,
-) -> Result<Vec<u16>, Fail> {
-    let mut best = Vec::new(heap);
+    question: &Question<'_, K>,
+) -> Result<Option<Vec<u16>>, Fail> {
+    let legs = question.network.leg_count();
+    let mut best = None;
     let mut list = Vec::new(heap);
     list.push(0)?;
     for _ in 0..MOST_TRIED {
-        let at = arrival(network, question, list.as_slice());
-        if at == Some(question.goal)
-            && is_better(network, model, list.as_slice(), best.as_slice())
-        {
-            best.clear();
-            best.extend_from_slice(list.as_slice())?;
+        let at = arrival(question, list.as_slice());
+        if at == Some(question.ends.goal) && is_better(question, list.as_slice(), best.as_deref()) {
+            best = Some(list.clone()?);
         }
-        if !advance(&mut list, network.leg_count(), at.is_some())? {
+        if !advance(&mut list, legs, at.is_some())? {
             return Ok(best);
         }
     }
@@ -63,13 +53,13 @@ fn least_by_trial<N: Network, K: CostModel>(
 }
 
 // Where these legs lead from the start, or nothing where they meet a station twice, something barred, or no leg.
-fn arrival<N: Network>(network: &N, question: &Question, list: &[u16]) -> Option<u8> {
+fn arrival<K: CostModel>(question: &Question<'_, K>, list: &[u16]) -> Option<u8> {
     let mut met = [false; 256];
-    met[usize::from(question.start)] = true;
-    let mut at = question.start;
-    for number in list {
-        let leg = network.leg_at(*number)?;
-        if leg.from != at || met[usize::from(leg.to)] || bars_any(&question.bars, leg, *number) {
+    met[usize::from(question.ends.start)] = true;
+    let mut at = question.ends.start;
+    for &number in list {
+        let leg = question.network.leg_at(number)?;
+        if leg.from != at || met[usize::from(leg.to)] || bars_any(&question.bars, leg, number) {
             return None;
         }
         at = leg.to;
@@ -82,34 +72,29 @@ fn bars_any(bars: &Bars, leg: Leg, number: u16) -> bool {
     bars.bars_leg(number) || bars.bars_station(leg.from) || bars.bars_station(leg.to)
 }
 
-// Whether a route ranks before another, or that one has no leg.
-fn is_better<N: Network, K: CostModel>(network: &N, model: &K, list: &[u16], best: &[u16]) -> bool {
-    let (cost, least) = (cost_of(network, model, list), cost_of(network, model, best));
-    if best.is_empty() || model.before(cost, least) {
+// Whether a route ranks before the best so far, if there is one.
+fn is_better<K: CostModel>(question: &Question<'_, K>, list: &[u16], best: Option<&[u16]>) -> bool {
+    let Some(best) = best else {
+        return true;
+    };
+    let (cost, least) = (cost_of(question, list), cost_of(question, best));
+    if question.model.before(cost, least) {
         return true;
     }
-    if model.before(least, cost) {
+    if question.model.before(least, cost) {
         return false;
     }
-    if list.len() != best.len() {
-        return list.len() < best.len();
-    }
-    for (number, other) in list.iter().zip(best.iter()) {
-        if *number != *other {
-            return *number < *other;
-        }
-    }
-    false
+    (list.len(), list) < (best.len(), best)
 }
 
-fn cost_of<N: Network, K: CostModel>(network: &N, model: &K, list: &[u16]) -> K::Cost {
-    let mut cost = model.zero();
-    for number in list {
-        if let Some(leg) = network.leg_at(*number) {
-            cost = model.join(cost, model.of_leg(leg));
-        }
-    }
-    cost
+fn cost_of<K: CostModel>(question: &Question<'_, K>, list: &[u16]) -> K::Cost {
+    let model = &question.model;
+    list.iter()
+        .filter_map(|&number| question.network.leg_at(number))
+        .fold(
+            model.zero(),
+            |cost, leg| model.join(cost, model.of_leg(leg)),
+        )
 }
 
 // The next list to try: one leg longer, or with the next number in the last place that has one. Whether there is any.
