@@ -7,8 +7,7 @@ use Rattle.bus.proofs.Entries.{each_fits}
 
 -- on the diagonal an entry that fits is 0
 diagonal_zero : (n i entry : ℕ) → i / n ≡ i % n → entry_fits n i entry ≡ true → entry ≡ 0
-diagonal_zero n i entry same e =
-    grind (arith, common_steps)
+diagonal_zero n i entry same e = grind (arith, common_steps)
 
 module _ (n : ℕ) (minutes : List ℕ) (size : size_fits n minutes ≡ true) (entries : entries_fit n 0 minutes ≡ true) where
   counted : stops_of n ≡ n

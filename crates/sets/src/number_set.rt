@@ -29,6 +29,7 @@ impl<const WORDS: usize> NumberSet<WORDS> {
         ensures { (i : ℕ) → holds self.new.words i ≡ after_put WORDS number member (holds self.old.words) i }
     {
         let word = usize::from(number / 64);
+        // By its place: after a write through `get_mut` a proof knows no word.
         if word < WORDS {
             let bit = 1 << (number % 64);
             if member {
