@@ -1,6 +1,6 @@
 // The second phase of a search: from the goal outward, how few legs lead from each station to the goal at its cost, and
 // which leg to take first.
-ghost use Rattle.std.specs.Prelude.{◌≡◌, ℕ, suc, ◌<◌, ◌≤◌, true, Some, Decides};
+ghost use Rattle.std.specs.Prelude.{◌≡◌, ℕ, suc, ◌<◌, ◌≤◌, ◌↔◌, true, Some, IsTrue};
 ghost use Rattle.route.specs.Certificate.{Tight, Labelling};
 ghost use Rattle.search.specs.Lines.{line_of, hops_of, first_of};
 ghost use Rattle.search.specs.Stages.{network_of, barred_in, table_cost, SettledIn, LabelledIn, Current};
@@ -17,12 +17,9 @@ use network::network::Network;
 impl<'a, K: CostModel> Search<'a, K> {
     // Whether two costs are equal: neither comes before the other.
     fn level(&self, a: K::Cost, b: K::Cost) -> bool
-        ensures { Decides result (a ≡ b) }
+        ensures { IsTrue result ↔ (a ≡ b) }
     {
-        if self.model.before(a, b) {
-            return false;
-        }
-        !self.model.before(b, a)
+        !self.model.before(a, b) && !self.model.before(b, a)
     }
 
     // Whether a route may use the leg and the cost over it is the cost of its start.
@@ -31,7 +28,7 @@ impl<'a, K: CostModel> Search<'a, K> {
         requires shown { (network_of self.now).at number ≡ Some leg }
         requires reached { seen table.now.places.now leg.to ≡ true }
         requires short { (h : ℕ) × (h ≤ 62) × (K.CostModel.costs self.now.model.now).stands (table_cost (K.CostModel.costs self.now.model.now) table.now leg.to) h }
-        ensures { Decides result (Tight (K.CostModel.costs self.now.model.now) (network_of self.now) (barred_in self.now) (table_cost (K.CostModel.costs self.now.model.now) table.now) number leg) }
+        ensures { IsTrue result ↔ Tight (K.CostModel.costs self.now.model.now) (network_of self.now) (barred_in self.now) (table_cost (K.CostModel.costs self.now.model.now) table.now) number leg }
     {
         if !self.may_use(number, leg) {
             return false;
