@@ -7,33 +7,34 @@ use Rattle.network.specs.declared.refusal.Refusal.TheVariants.{ShortBuffer}
 use Rattle.map_format.specs.declared.heading.Heading.{Heading}
 use Rattle.map_format.specs.declared.kind.Kind.{Kind}
 use Rattle.map_format.specs.Format.{Item, encode, encode_heading, size, kind_of}
-use Rattle.map_format.specs.Walking.{of_kind, record_at, records_from, encode_records}
+use Rattle.map_format.specs.Walking.{of_kind, encode_records}
+use Rattle.map_format.specs.Views.{said}
+use Rattle.map_format.specs.declared.record.Placed.{Placed}
+use Rattle.map_file.specs.declared.walk.Records.{Records}
+use Rattle.map_file.specs.Steps.{left_in, TakesFirst}
 use Rattle.map_file.specs.Writing.{spliced, write_answer, buffer_after}
 use Rattle.map_format.proofs.Records.{refused, nothing, whole_size}
 use Rattle.map_file.proofs.Splices.{splice_behind}
-use Rattle.map_format.proofs.Walks.{walk_step, walk_end}
 
 of_kind_size : (k : Option Kind) (file : List ℕ) (at : ℕ) (p : Item × ℕ) → of_kind k file at ≡ Some p → at + size p.0 ≡ p.1
 of_kind_size (Some kind) file at p e = (whole_size kind file at p e).0
 of_kind_size None file at p e = absurd (nothing p e)
 
-module _ (file : List ℕ) (at : ℕ) (p : Item × ℕ) (found : record_at file at ≡ Some p) where
-  pub record_size : at + size p.0 ≡ p.1
-  record_size = of_kind_size (kind_of (get_or file at 0)) file at p found
+module _ (w : Records) (p : Placed) (v : Records) (t : TakesFirst w p v) where
+  pub step_size : w.at + size (said p.record) ≡ v.at
+  step_size = of_kind_size (kind_of (get_or w.bytes.now w.at 0)) w.bytes.now w.at (said p.record, v.at) t.read
 
-  pub encoded_step : encode_records (records_from file at) ≡ encode p.0 ++ encode_records (records_from file p.1)
-  encoded_step = ap encode_records (walk_step file at p found)
+  encoded_step : encode_records (left_in w) ≡ encode (said p.record) ++ encode_records (left_in v)
+  encoded_step = ap encode_records t.first
 
-  pub length_step : at + length (encode_records (records_from file at)) ≡ p.1 + length (encode_records (records_from file p.1))
-  length_step = omega (arith, ap length encoded_step, length-append (encode p.0) (encode_records (records_from file p.1)), record_size)
+  pub step_length : w.at + length (encode_records (left_in w)) ≡ v.at + length (encode_records (left_in v))
+  step_length = omega (arith, ap length encoded_step, length-append (encode (said p.record)) (encode_records (left_in v)), step_size)
 
-  pub splice_step : (out : List ℕ) → at + length (encode_records (records_from file at)) ≤ length out → spliced (spliced out at (encode p.0)) p.1 (encode_records (records_from file p.1)) ≡ spliced out at (encode_records (records_from file at))
-  splice_step out room =
-      splice_behind out at p.1 (encode p.0) (encode_records (records_from file p.1)) (sym record_size) (omega (arith, length_step, record_size))
-      ∙ ap (spliced out at) (sym encoded_step)
-
-pub encoded_end : (file : List ℕ) (at : ℕ) → record_at file at ≡ None → encode_records (records_from file at) ≡ []
-encoded_end file at e = ap encode_records (walk_end file at e)
+  pub step_splice : (out : List ℕ) → w.at + length (encode_records (left_in w)) ≤ length out → spliced (spliced out p.place (encode (said p.record))) v.at (encode_records (left_in v)) ≡ spliced out w.at (encode_records (left_in w))
+  step_splice out room =
+      ap (λ k. spliced (spliced out k (encode (said p.record))) v.at (encode_records (left_in v))) t.place
+      ∙ splice_behind out w.at v.at (encode (said p.record)) (encode_records (left_in v)) (sym step_size) (omega (arith, step_length, step_size))
+      ∙ ap (spliced out w.at) (sym encoded_step)
 
 pub splice_none : (out : List ℕ) (at : ℕ) → spliced out at [] ≡ out
 splice_none out at = ap (λ k. take at out ++ drop k out) (add-zero at) ∙ take-append-drop at out

@@ -3,34 +3,33 @@ ghost use Rattle.std.specs.Prelude.{◌≡◌, ◌+◌, ◌≤◌, ◌++◌, len
 ghost use Rattle.map_format.specs.Walking.{records_from, encode_records};
 ghost use Rattle.map_format.specs.Format.{encode_heading};
 ghost use Rattle.map_format.specs.Laws.{RoundTrip};
+ghost use Rattle.map_file.specs.Steps.{left_in};
 ghost use Rattle.map_file.specs.Writing.{spliced, write_answer, buffer_after};
 
 use crate::heading::HEADING_LEN;
-use crate::read::record_at;
+use crate::walk::Records;
 use crate::write::{put_heading, put_record};
 use map_format::heading::Heading;
+use map_format::record::Placed;
 use network::refusal::Refusal;
 
-// How many bytes the heading and the records take.
-fn rewritten_len(bytes: &[u8]) -> usize
-    ensures { result ≡ 8 + length (encode_records (records_from bytes.now 8)) }
+// The offset behind the last of these records.
+fn end_of(records: Records<'_>) -> usize
+    ensures { result ≡ records.entry.at + length (encode_records (left_in records.entry)) }
 {
-    let mut at = HEADING_LEN;
-    while let Some((_, end)) = record_at(bytes, at) {
-        at = end;
-    }
-    at
+    let mut left = records;
+    // its place and size, added in a for loop, would have to be shown to fit
+    while left.next().is_some() {}
+    left.at
 }
 
-// Puts the records into a buffer behind the place of the heading.
-fn put_records(bytes: &[u8], out: &mut [u8])
-    requires { 8 + length (encode_records (records_from bytes.now 8)) ≤ length out.old }
-    ensures { out.new ≡ spliced out.old 8 (encode_records (records_from bytes.now 8)) }
+// Puts records into a buffer, each at its place.
+fn put_records(records: Records<'_>, out: &mut [u8])
+    requires { records.at + length (encode_records (left_in records)) ≤ length out.old }
+    ensures { out.new ≡ spliced out.old records.entry.at (encode_records (left_in records.entry)) }
 {
-    let mut at = HEADING_LEN;
-    while let Some((what, end)) = record_at(bytes, at) {
-        put_record(what, out, at);
-        at = end;
+    for Placed { place, record } in records {
+        put_record(record, out, place);
     }
 }
 
@@ -40,11 +39,12 @@ pub(crate) fn rewrite_file(bytes: &[u8], heading: Heading, out: &mut [u8]) -> Re
     ensures answer { result ≡ write_answer None (encode_heading heading ++ encode_records (records_from bytes.now 8)) out.old }
     ensures after { out.new ≡ buffer_after result (encode_heading heading ++ encode_records (records_from bytes.now 8)) out.old }
 {
-    let size = rewritten_len(bytes);
+    let records = Records::new(bytes, HEADING_LEN);
+    let size = end_of(records);
     if out.len() < size {
         return Err(Refusal::ShortBuffer);
     }
     put_heading(heading, out);
-    put_records(bytes, out);
+    put_records(records, out);
     Ok(size)
 }
