@@ -85,9 +85,6 @@ module _ {C : Type 0} (k : Costs C) (laws : Laws k) (m : Meaning) (sound : Sound
 
   -- the least of the waiting entries comes out
   module _ (at : ℕ) (row' : List (Entry C)) (swap : Swap (blank k) out at row row') (places' : List (Option ℕ)) (made : places' ≡ set (set places (get_or row out (blank k)).station (Some at)) (get_or row at (blank k)).station (Some out)) where
-    u : ℕ
-    u = (get_or row at (blank k)).station
-
     u_place : place places (get_or row at (blank k)).station ≡ at
     u_place = p.placed.here at swap.within
 

@@ -49,9 +49,6 @@ module _ {K C : Type 0} {k : Costs C} {s : Search K} {i : ℕ} {t : Settling C} 
   fits : l.from < (network_of s).stations
   fits = (sound.fits i l a.at).from_fits
 
-  pub from_below : l.from < 64
-  from_below = omega (arith, fits, sound.stations_high)
-
   -- w is where the leg's start stands
   module _ (w : ℕ) (is_place : w ≡ place t.places l.from) where
     pub placed_in : w ≤ 63 → w < length (held t.queue)
