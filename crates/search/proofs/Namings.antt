@@ -1,4 +1,5 @@
 -- Phase 2 in its tables: what one leg does.
+use mathlib.Core.Logic.{∥∥₁_elim}
 use Rattle.std.proofs.Common.{◌≡◌, ℕ, suc, ◌+◌, ◌<◌, ◌≤◌, Bool, true, false, cond, eqb, ltb, ◌⊎◌, length, get_or, set, Some, None, Decides, sym, refl, ap, ◌∙◌, subst, inl, inr, arith}
 use Rattle.network.specs.declared.leg.Leg.{Leg}
 use Rattle.network.specs.Meaning.{Sound}
@@ -13,11 +14,12 @@ use Rattle.search.specs.Lines.{line_of, hops_in, hops_of, first_of, unlabelled, 
 use Rattle.search.specs.Stages.{network_of, barred_in, table_cost, SettledIn, LabelledIn, Current, Naming}
 use Rattle.search.specs.Tables.{place, seen, turn}
 use Rattle.search.proofs.Lines.{labelled_settled, labelled_stands, labelled_skip, labelled_pass, labelled_room, labelled_put}
-use Rattle.search.proofs.Tables.{seen_placed, placed_below}
+use Rattle.search.proofs.Tables.{seen_placed}
 use Rattle.snapshot.specs.Meanings.{Arrives}
 use Rattle.snapshot.specs.Steps.{Awaits, Stepped}
 use Rattle.snapshot.specs.declared.iter.ArrivalsAt.{ArrivalsAt}
 use Rattle.snapshot.specs.Sounds.{snapshot_sound}
+use Rattle.std.proofs.Props.{props}
 use Rattle.std.proofs.lemmas.List.{get_or-set_other}
 use Rattle.std.proofs.lemmas.Bool.{cases_eq, eq-eqb, ne_eqb, ltb-true, ltb-false, cond-true, cond-false, cond_both}
 
@@ -32,20 +34,14 @@ better h h' e e' told = either (cases_eq h h')
     (λ x. inr (sym x, ltb-true e e' (sym (cond-true (eqb h h') (ltb e e') (ltb h h') (eq-eqb h h' x)) ∙ told)))
     (λ x. inl (ltb-true h h' (sym (cond-false (eqb h h') (ltb e e') (ltb h h') (ne_eqb h h' x)) ∙ told)))
 
-module _ {K C : Type 0} (k : Costs C) (laws : Laws k) (s : Search K) (t : CostTable C) (settled : SettledIn k s t) where
+module _ {K C : Type 0} (k : Costs C) (laws : Laws k) (s : Search K) (t : CostTable C) where
   sound : Sound (network_of s)
   sound = snapshot_sound s.network.now
 
-  -- a settled station has a cost in the table
-  pub in_table : (v : ℕ) → seen t.places.now v ≡ true → (v < 64) × (place t.places.now v < length t.row.now)
-  in_table v e =
-      let near = seen_placed t.places.now v e in
-      (omega (arith, placed_below k (network_of s).stations sound.stations_high t.row.now t.places.now settled.placed v near, sound.stations_high), (settled.placed.there v near).0)
-
   module _ (i : ℕ) (l : Leg) (at : (network_of s).at i ≡ Some l) where
-    -- so has the start of a usable leg into a settled station
-    pub from_seen : seen t.places.now l.to ≡ true → Usable (network_of s) (barred_in s) i l → seen t.places.now l.from ≡ true
-    from_seen e g = settled.settling.closed i l g e
+    -- the start of a usable leg into a settled station has a cost in the table
+    pub from_placed : ∥ SettledIn k s t ∥₁ → seen t.places.now l.to ≡ true → Usable (network_of s) (barred_in s) i l → place t.places.now l.from < length t.row.now
+    from_placed settled e g = ∥∥₁_elim settled (hlevel props) (λ p. (p.placed.there l.from (seen_placed t.places.now l.from (p.settling.closed i l g e))).0)
 
     -- the test for a tight leg: r is the joined cost, z the cost of the start, b whether they are equal
     pub tight_told : Usable (network_of s) (barred_in s) i l → ((h : ℕ) × (h ≤ 62) × k.stands (table_cost k t l.to) h) → (a y r z : C) → a ≡ k.of_leg l → y ≡ table_cost k t l.to → z ≡ table_cost k t l.from → ((m n : ℕ) → k.stands a m → k.stands y n → m + n ≤ 63 → r ≡ k.join a y) → (b : Bool) → Decides b (r ≡ z) → Decides b (Tight k (network_of s) (barred_in s) (table_cost k t) i l)
@@ -68,8 +64,9 @@ module _ {K C : Type 0} (k : Costs C) (laws : Laws k) (s : Search K) (t : CostTa
     pub from_below : l.from < 64
     from_below = omega (arith, (sound.fits x.first l at).from_fits, sound.stations_high)
 
-    pub to_seen : seen t.places.now l.to ≡ true
-    to_seen = labelled_settled k (network_of s) (barred_in s) s.goal ls.done x.first (table_cost k t) ls p (seen t.places.now) (turn t.places.now (length t.row.now)) settled.settling l.to (omega (arith, to_hops))
+    pub to_seen : ∥ SettledIn k s t ∥₁ → seen t.places.now l.to ≡ true
+    to_seen settled = ∥∥₁_elim settled (hlevel props)
+        (λ q. labelled_settled k (network_of s) (barred_in s) s.goal ls.done x.first (table_cost k t) ls p (seen t.places.now) (turn t.places.now (length t.row.now)) q.settling l.to (omega (arith, to_hops)))
 
     pub to_stands : (h : ℕ) × (h ≤ 62) × k.stands (table_cost k t l.to) h
     to_stands = (hops_of ls l.to, to_hops, labelled_stands k (network_of s) (barred_in s) s.goal ls.done x.first (table_cost k t) ls p laws sound l.to (omega (arith, to_hops)))
