@@ -2,6 +2,7 @@
 use Rattle.std.proofs.Common.{◌≡◌, ℕ, ◌+◌, ◌<◌, ◌≤◌, true, false, ltb, ◌⊎◌, List, [], ◌++◌, length, get_or, take, drop, Some, None, Ok, Err, Option, sym, refl, ap, ◌∙◌, inl, inr, add-zero, zero-add, arith, length-append}
 use Rattle.std.proofs.lemmas.List.{take-append-drop, take_at}
 use Rattle.std.proofs.lemmas.Bool.{cases_Bool, cond-true, cond-false, le-ltb, lt-ltb}
+use Rattle.network.specs.Shown.{nothing}
 use Rattle.network.specs.declared.refusal.Refusal.{Refusal}
 use Rattle.network.specs.declared.refusal.Refusal.TheVariants.{ShortBuffer}
 use Rattle.map_format.specs.declared.heading.Heading.{Heading}
@@ -13,7 +14,7 @@ use Rattle.map_format.specs.declared.record.Placed.{Placed}
 use Rattle.map_file.specs.declared.walk.Records.{Records}
 use Rattle.map_file.specs.Steps.{left_in, TakesFirst}
 use Rattle.map_file.specs.Writing.{spliced, write_answer, buffer_after}
-use Rattle.map_format.proofs.Records.{refused, nothing, whole_size}
+use Rattle.map_format.proofs.Records.{refused, whole_size}
 use Rattle.map_file.proofs.Splices.{splice_behind}
 
 of_kind_size : (k : Option Kind) (file : List ℕ) (at : ℕ) (p : Item × ℕ) → of_kind k file at ≡ Some p → at + size p.0 ≡ p.1

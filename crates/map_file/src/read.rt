@@ -14,6 +14,9 @@ use map_format::record::Record;
 use network::leg::Leg;
 use network::refusal::Refusal;
 
+// Each function here takes a file and an offset, as its definition does: `Records` holds the two between records. That a
+// text is short stands in each contract: `Record` is made by callers too, and a ghost field would ask it of them.
+
 // How many bytes a leg record takes.
 pub(crate) const LEG_LEN: usize = 7;
 

@@ -10,14 +10,14 @@ use Rattle.std.specs.List.{flat_map}
 use Rattle.map_format.specs.declared.fault.Fault.{Fault}
 use Rattle.map_format.specs.declared.heading.Heading.{Heading}
 use Rattle.map_format.specs.declared.kind.Kind.{Kind}
-use Rattle.map_format.specs.declared.kind.Kind.TheVariants.{Station as StationKind, Leg as LegKind, Notice as NoticeKind}
+use Rattle.map_format.specs.declared.kind.Kind.TheVariants.{Notice as NoticeKind}
 use Rattle.map_format.specs.Format.{Item, station, leg, notice, encode, encode_heading, mark_of, size, counts_fit, fits, heading_of, leg_at, part}
 use Rattle.map_format.specs.Reading.{Stretch, Contents, and_then, follow, marked, read_heading, in_range, telling, due_record, whole_text, whole_record, run, notices, verdict}
 use Rattle.map_format.specs.Laws.{Description, heading_for, items, all_fit, InRange, encode_file, placed_from, Tells}
 use Rattle.map_format.proofs.Encodes.{word_back}
 use Rattle.map_format.proofs.Runs.{notices_end}
 use Rattle.map_format.proofs.Verdicts.{Phases, gathered, phases_verdict}
-use Rattle.map_format.proofs.Laws.{joined_both, placed_both, fit_parts}
+use Rattle.map_format.proofs.Laws.{joined_both, placed_both, fit_parts, MadeOf, stations_of, legs_of, notices_of}
 
 -- what stands from an offset on, read at places behind it
 module _ (file : List ℕ) (at : ℕ) (xs rest : List ℕ) (stand : drop at file ≡ xs ++ rest) where
@@ -57,45 +57,35 @@ leg_back file at l rest stand =
     (λ i. 256 * b 3 (omega arith) i + low i) ∙ word_back l.seconds in
     λ i. record { from = b 1 (omega arith) i; to = b 2 (omega arith) i; seconds = seconds i; points = b 5 (omega arith) i; grade = b 6 (omega arith) i }
 
--- how values of a kind of record are read back
-record BackTo (kind : Kind) (X : Type 0) : Type 0 where
-  make : X → Item
-  back : (file : List ℕ) (at : ℕ) (x : X) (rest : List ℕ) → drop at file ≡ encode (make x) ++ rest → (get_or file (at + 0) 0 ≡ mark_of kind) × (whole_record kind file at ≡ Some (make x, at + size (make x)))
+-- values of a kind of record are read back
+abbrev BackTo : {kind : Kind} {X : Type 0} → MadeOf kind X → Type 0
+BackTo {kind} {X} of = (file : List ℕ) (at : ℕ) (x : X) (rest : List ℕ) → drop at file ≡ encode (of.make x) ++ rest → (get_or file (at + 0) 0 ≡ mark_of kind) × (whole_record kind file at ≡ Some (of.make x, at + size (of.make x)))
 
 text_end : (at n : ℕ) → at + 2 + n ≡ at + suc (suc n)
 text_end at n = omega arith
 
-abbrev stations_back : BackTo StationKind (List ℕ)
-stations_back = record {
-  make = station;
-  back = λ file at t rest stand. (read_at file at (encode (station t)) rest stand 0 (omega arith), ap (telling station) (text_back file at 0x53 t rest stand) ∙ ap (λ k. Some (station t, k)) (text_end at (length t)));
-}
+stations_back : BackTo stations_of
+stations_back file at t rest stand = (read_at file at (encode (station t)) rest stand 0 (omega arith), ap (telling station) (text_back file at 0x53 t rest stand) ∙ ap (λ k. Some (station t, k)) (text_end at (length t)))
 
-abbrev legs_back : BackTo LegKind Leg
-legs_back = record {
-  make = leg;
-  back = λ file at l rest stand. (
-    read_at file at (encode (leg l)) rest stand 0 (omega arith),
-    cond-false (ltb (length file) (at + 7)) None (Some (leg (leg_at file at), at + 7)) (le-ltb (length file) (at + 7) (long_enough file at (encode (leg l)) rest stand (omega arith)))
-        ∙ ap (λ (k : Leg). Some (leg k, at + 7)) (leg_back file at l rest stand),
-  );
-}
+legs_back : BackTo legs_of
+legs_back file at l rest stand = (
+  read_at file at (encode (leg l)) rest stand 0 (omega arith),
+  cond-false (ltb (length file) (at + 7)) None (Some (leg (leg_at file at), at + 7)) (le-ltb (length file) (at + 7) (long_enough file at (encode (leg l)) rest stand (omega arith)))
+      ∙ ap (λ (k : Leg). Some (leg k, at + 7)) (leg_back file at l rest stand),
+)
 
-abbrev notices_back : BackTo NoticeKind (List ℕ)
-notices_back = record {
-  make = notice;
-  back = λ file at t rest stand. (read_at file at (encode (notice t)) rest stand 0 (omega arith), ap (telling notice) (text_back file at 0x4E t rest stand) ∙ ap (λ k. Some (notice t, k)) (text_end at (length t)));
-}
+notices_back : BackTo notices_of
+notices_back file at t rest stand = (read_at file at (encode (notice t)) rest stand 0 (omega arith), ap (telling notice) (text_back file at 0x4E t rest stand) ∙ ap (λ k. Some (notice t, k)) (text_end at (length t)))
 
 size_some : (x : Item) → 0 < size x
 size_some (station name) = omega arith
 size_some (leg l) = omega arith
 size_some (notice text) = omega arith
 
-module _ {kind : Kind} {X : Type 0} (of : BackTo kind X) (s : ℕ) (file : List ℕ) where
+module _ {kind : Kind} {X : Type 0} (of : MadeOf kind X) (back : BackTo of) (s : ℕ) (file : List ℕ) where
   due_back : (at : ℕ) (x : X) (rest : List ℕ) → fits s (of.make x) ≡ true → drop at file ≡ encode (of.make x) ++ rest → due_record s kind file at ≡ Ok (of.make x, at + size (of.make x))
   due_back at x rest fit stand =
-      let b = of.back file at x rest stand in
+      let b = back file at x rest stand in
       let long = long_enough file at (encode (of.make x)) rest stand (size_some (of.make x)) in
       due_from s kind file at (of.make x, at + size (of.make x)) (omega (arith, size_some (of.make x))) (ap (λ k. get_or file k 0) (sym (add-zero at)) ∙ b.0) b.1 fit
 
@@ -126,15 +116,15 @@ notices_read_back : (s : ℕ) (file : List ℕ) (texts : List (List ℕ)) (n at 
 notices_read_back s file [] n at h fit stand =
     notices_end s n file at (omega (arith, ap length stand, length-drop at file)) ∙ ap (λ k. Ok ([], k)) (sym (add-zero at))
 notices_read_back s file (t ∷ texts) zero at h fit stand =
-    let b = behind_first notices_back s file at (notice t) (map notice texts) [] stand in
+    let b = behind_first notices_of notices_back s file at (notice t) (map notice texts) [] stand in
     absurd (omega (arith, h, long_enough file at (encode (notice t)) (flat_map encode (map notice texts) ++ []) b.0 (size_some (notice t))))
 notices_read_back s file (t ∷ texts) (suc n) at h fit stand =
     let xs = map notice texts in
     let f = and_parts (fits s (notice t)) (all_fit s xs) fit in
-    let b = behind_first notices_back s file at (notice t) xs [] stand in
+    let b = behind_first notices_of notices_back s file at (notice t) xs [] stand in
     let long = long_enough file at (encode (notice t)) (flat_map encode xs ++ []) b.0 (size_some (notice t)) in
     cond-false (leb (length file) at) (Ok ([], at)) (follow at (due_record s NoticeKind file at) (notices s file n)) (lt-leb (length file) at (omega arith))
-    ∙ follow_back notices_back s file (notices s file n) at t xs (flat_map encode xs ++ []) f.0 b.0 (notices_read_back s file texts n (at + size (notice t)) (omega arith) f.1 b.1)
+    ∙ follow_back notices_of notices_back s file (notices s file n) at t xs (flat_map encode xs ++ []) f.0 b.0 (notices_read_back s file texts n (at + size (notice t)) (omega arith) f.1 b.1)
 
 -- ---- the whole file
 
@@ -167,8 +157,8 @@ module _ (d : Description) (fit : InRange d) where
       let ns : Stretch = (placed_from notices_at zs, notices_at + length (flat_map encode zs)) in
       let p : Phases file h ss ls ns = record {
         heading_read = heading_back h (flat_map encode (items d)) fit.0;
-        stations_read = run_back stations_back s file d.names 8 (flat_map encode (ys ++ zs)) f.0 first;
-        legs_read = run_back legs_back s file d.legs legs_at (flat_map encode zs) g.0 second;
+        stations_read = run_back stations_of stations_back s file d.names 8 (flat_map encode (ys ++ zs)) f.0 first;
+        legs_read = run_back legs_of legs_back s file d.legs legs_at (flat_map encode zs) g.0 second;
         notices_read = notices_read_back s file d.texts (length file - notices_at) notices_at (omega arith) g.1 third;
       } in (
         gathered h ss ls ns,

@@ -54,17 +54,17 @@ record Stands {X : Type 0} (f : X → Item) (s : ℕ) (file : List ℕ) (at : �
   ends : q.1 ≡ at + length (flat_map encode (map f values))
 
 -- what a kind of record is made of
-record MadeOf (kind : Kind) (X : Type 0) : Type 0 where
-  make : X → Item
-  made : (file : List ℕ) (at : ℕ) (p : Item × ℕ) → whole_record kind file at ≡ Some p → (x : X) × (p.0 ≡ make x)
+pub record MadeOf (kind : Kind) (X : Type 0) : Type 0 where
+  pub make : X → Item
+  pub made : (file : List ℕ) (at : ℕ) (p : Item × ℕ) → whole_record kind file at ≡ Some p → (x : X) × (p.0 ≡ make x)
 
-abbrev stations_of : MadeOf StationKind (List ℕ)
+abbrev pub stations_of : MadeOf StationKind (List ℕ)
 stations_of = record { make = station; made = λ file at p e. let q = telling_inv station (whole_text file at) p e in (q.0.0, q.2) }
 
-abbrev legs_of : MadeOf LegKind Leg
+abbrev pub legs_of : MadeOf LegKind Leg
 legs_of = record { make = leg; made = λ file at p e. (leg_at file at, ap (λ (q : Item × ℕ). q.0) (sym (whole_leg_inv file at p e).1)) }
 
-abbrev notices_of : MadeOf NoticeKind (List ℕ)
+abbrev pub notices_of : MadeOf NoticeKind (List ℕ)
 notices_of = record { make = notice; made = λ file at p e. let q = telling_inv notice (whole_text file at) p e in (q.0.0, q.2) }
 
 module _ {kind : Kind} {X : Type 0} (of : MadeOf kind X) (s : ℕ) (file : List ℕ) (small : Bytes file) where

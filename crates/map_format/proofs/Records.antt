@@ -2,6 +2,7 @@
 use Rattle.std.proofs.Common.{◌≡◌, ℕ, ◌+◌, ◌<◌, ◌≤◌, Bool, true, false, cond, eqb, ltb, leb, ◌⊎◌, List, length, get_or, drop, Some, None, Ok, Err, Option, Result, sym, refl, ap, ◌∙◌, subst, inl, inr, ⊎_elim, arith, length-drop}
 use Rattle.std.proofs.lemmas.List.{length-take-le}
 use Rattle.std.proofs.lemmas.Bool.{cases_Bool, leb-false, ltb-false, eqb-true, cond-true, cond-false}
+use Rattle.network.specs.Shown.{nothing}
 use Rattle.network.specs.declared.refusal.Refusal.TheVariants.{CutShort, WrongKind, FieldOutOfRange}
 use Rattle.map_format.specs.declared.kind.Kind.{Kind}
 use Rattle.map_format.specs.declared.kind.Kind.TheVariants.{Station as StationKind, Leg as LegKind, Notice as NoticeKind}
@@ -9,10 +10,7 @@ use Rattle.map_format.specs.Format.{Item, station, leg, notice, mark_of, size, f
 use Rattle.map_format.specs.Reading.{whole_text, whole_record, telling, in_range, due_record}
 
 pub refused : {X Y : Type 0} (y : Y) (x : X) → ◌≡◌ {A = Result X Y} (Err y) (Ok x) → ⊥
-refused y x e = let z : ◌≡◌ {A = ℕ} 0 1 = cc in omega arith
-
-pub nothing : {X : Type 0} (x : X) → ◌≡◌ {A = Option X} None (Some x) → ⊥
-nothing x e = let z : ◌≡◌ {A = ℕ} 0 1 = cc in omega arith
+refused y x e = cc
 
 -- a record that was read has its kind byte, is whole, and its fields fit
 pub record Due (s : ℕ) (kind : Kind) (file : List ℕ) (at : ℕ) (p : Item × ℕ) : Type 0 where

@@ -2,6 +2,7 @@
 use Rattle.std.proofs.Common.{◌≡◌, ℕ, zero, suc, ◌+◌, ◌-◌, ◌≤◌, Bool, cond, ◌⊎◌, List, [], ◌∷◌, ◌++◌, length, get_or, Some, None, Ok, Err, Option, Result, sym, refl, ap, ◌∙◌, inl, inr, arith}
 use Rattle.std.proofs.lemmas.List.{get_or_past}
 use Rattle.std.proofs.lemmas.Bool.{cases_lt, lt-leb}
+use Rattle.network.specs.Shown.{nothing}
 use Rattle.network.specs.declared.refusal.Refusal.{Refusal}
 use Rattle.map_format.specs.declared.fault.Fault.{Fault}
 use Rattle.map_format.specs.declared.kind.Kind.{Kind}
@@ -9,7 +10,7 @@ use Rattle.map_format.specs.declared.kind.Kind.TheVariants.{Station as StationKi
 use Rattle.map_format.specs.Format.{Item, mark_of, kind_of}
 use Rattle.map_format.specs.Reading.{Stretch, and_then, follow, end_of, due_record, run, notices}
 use Rattle.map_format.specs.Walking.{of_kind, record_at, onward, at_most, records_from}
-use Rattle.map_format.proofs.Records.{refused, nothing, due_inv, whole_bounds}
+use Rattle.map_format.proofs.Records.{refused, due_inv, whole_bounds}
 use Rattle.map_format.proofs.Runs.{due_bounds, notices_end}
 
 pub either : {A B C : Type 0} → A ⊎ B → (A → C) → (B → C) → C
