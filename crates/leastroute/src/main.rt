@@ -21,6 +21,7 @@ fn print_answer<W: Write>(out: &mut W, input: &[u8]) -> io::Result<()> {
     }
 }
 
+// Like the other program's but for what is printed: a crate for both would be longer than these lines.
 fn main(rt: HostRuntime) -> io::Result<()> {
     let mut input = Vec::new(rt.alloc());
     // one byte more than is looked at tells a longer input

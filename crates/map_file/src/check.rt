@@ -39,6 +39,7 @@ impl Records<'_> {
     pub(crate) fn pass_notices(&mut self, stations: u8) -> Result<(), Fault>
         ensures { behind result self.new ≡ end_of (notices stations self.old.bytes.now (length self.old.bytes.now - self.old.at) self.old.at) }
     {
+        // no iterator hands on records that are tested and the fault that ends them
         while self.at < self.bytes.len() {
             self.pass(Kind::Notice, stations)?;
         }

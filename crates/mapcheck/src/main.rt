@@ -71,7 +71,7 @@ impl fmt::Display for Line<'_> {
     }
 }
 
-// What is in an accepted map.
+// What is in an accepted map. Its lines are printed as they come, and no value holds them all to be displayed.
 fn print_map<W: Write>(out: &mut W, map: &Map<'_>) -> io::Result<()> {
     let Heading { stations, legs } = map.heading();
     let notices = map.notices().count();
@@ -107,7 +107,7 @@ fn write_again(map: &Map<'_>, file: &[u8], copy: &mut [u8]) -> Result<Rewritten,
     Ok(Rewritten { size, difference })
 }
 
-// Says whether the map, written again, is the file.
+// Says whether the map, written again, is the file. It allocates, which no `Display` can.
 fn print_rewritten<W: Write>(
     out: &mut W,
     heap: Global,
@@ -137,11 +137,12 @@ fn print_report<W: Write>(out: &mut W, heap: Global, input: &[u8]) -> io::Result
     }
 }
 
+// Like the other program's but for what is printed: a crate for both would be longer than these lines.
 fn main(rt: HostRuntime) -> io::Result<()> {
     let heap = rt.alloc();
     let mut input = Vec::new(heap);
     // one byte more than is looked at tells a longer input
-    rt.stdin().take(65_537).read_to_end(&mut input)?;
+    rt.stdin().take(LIMIT as u64 + 1).read_to_end(&mut input)?;
     let mut out = BufWriter::new(heap, rt.stdout())?;
     if input.len() > LIMIT {
         writeln!(out, "too long")?;

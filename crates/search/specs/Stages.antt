@@ -1,5 +1,5 @@
 -- A search under way in a queue and its tables.
-use Rattle.std.specs.Prelude.{◌≡◌, ℕ, suc, ◌-◌, ◌<◌, ◌≤◌, List, Some, None, Option, slice_index_or, slice_set}
+use Rattle.std.specs.Prelude.{◌≡◌, ℕ, suc, ◌-◌, ◌<◌, ◌≤◌, List, Some, Option, slice_index_or, slice_set}
 use Rattle.network.specs.Meaning.{Meaning}
 use Rattle.cost.specs.Costs.{Costs}
 use Rattle.queue.specs.declared.least.Least.{Least}

@@ -104,6 +104,7 @@ impl<'a, K: CostModel> Search<'a, K> {
             table,
         };
         let mut labels = Labels::start(self.goal);
+        // the line grows while it is walked
         while labels.done < labels.count {
             labeller.label_arrivals(&mut labels);
             labels.done += 1;

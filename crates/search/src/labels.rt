@@ -10,6 +10,7 @@ pub(crate) struct Label {
     pub(crate) first: u16,
 }
 
+// A call asks of a station that it is below 64, as each row of 64 asks of an index.
 #[derive(Clone, Copy)]
 pub(crate) struct Labels {
     // the stations with a label, in the order in which they got it: a line that grows while it is walked, in fixed memory

@@ -12,7 +12,7 @@ pub struct Table<'a> {
     pub legs: &'a [Leg],
 }
 
-/// In range in no network.
+/// In range in no network. It is no `Option`: that a leg out of range shows nothing is tried by it.
 pub const NO_LEG: Leg = Leg {
     from: 0,
     to: 0,

@@ -26,6 +26,7 @@ impl<'m, K: CostModel> Order for ByCost<'m, K> {
     ghost strict = { λ x. sooner_strict (K.CostModel.costs x.model.now) (K.CostModel.laws x.model.now) };
 
     fn comes_before(&self, a: Entry<K::Cost>, b: Entry<K::Cost>) -> bool {
+        // by hand: costs are compared by a method of their model, which no derive reads
         self.model.before(a.cost, b.cost)
             || (!self.model.before(b.cost, a.cost) && a.station < b.station)
     }
