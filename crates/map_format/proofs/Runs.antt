@@ -75,6 +75,3 @@ module _ (s : ℕ) (file : List ℕ) (at : ℕ) (more : at < length file) where
 
   pub notices_stop : (f : Fault) → Err f ≡ end_of (run NoticeKind s file 1 at) → end_of (notices s file (length file - at) at) ≡ Err f
   notices_stop f h = ap end_of opened ∙ one_stop NoticeKind s file at (due_record s NoticeKind file at) (notices s file (length file - (at + 1))) f h
-
-pub notices_done : (s : ℕ) (file : List ℕ) (at : ℕ) → length file ≤ at → end_of (notices s file (length file - at) at) ≡ Ok at
-notices_done s file at h = ap end_of (notices_end s (length file - at) file at h)
