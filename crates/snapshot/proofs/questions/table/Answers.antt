@@ -1,13 +1,13 @@
 use Rattle.std.proofs.Common.{ap, ◌∙◌, arith, rules}
 use Rattle.snapshot.specs.Tables.{none_or_fits}
 use Rattle.snapshot.proofs.Copies.{shown_fits}
-use Rattle.snapshot.proofs.snapshot.Snapshot.of.Goals as goal
+use Rattle.snapshot.proofs.questions.table.Goals as goal
 
 pub invariant_of-result : goal.invariant_of-result
 invariant_of-result g c =
     let m = g.N.Network.meaning c.args.network.now in
     let s = g.N.Network.sound c.args.network.now in
-    let copied = c.legs_of-legs.ensures in
+    let copied = c.requires in
     let stations = c.station_count-stations.ensures in
     let count = c.leg_count-count.ensures in
     let lists = c.of.ensures in
