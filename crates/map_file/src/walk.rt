@@ -35,15 +35,10 @@ impl<'a> Iterator for Records<'a> {
     ghost remaining = { λ s. at_most (length s.bytes.now - s.at) };
 
     fn next(&mut self) -> Option<Placed<'a>> {
-        let bytes = self.bytes;
         let place = self.at;
-        match record_at(bytes, place) {
-            Some((record, end)) => {
-                self.at = end;
-                Some(Placed { place, record })
-            }
-            None => None,
-        }
+        let (record, end) = record_at(self.bytes, place)?;
+        self.at = end;
+        Some(Placed { place, record })
     }
 }
 
