@@ -8,6 +8,7 @@ use cost::points::PointsThenSeconds;
 use cost::seconds::Seconds;
 use network::refusal::Refusal;
 
+/// By what routes are ranked.
 #[derive(Clone, Copy, Debug)]
 pub enum Ranking {
     /// By riding time.

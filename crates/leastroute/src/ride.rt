@@ -3,6 +3,7 @@ use cost::fare::Fare;
 use search_types::leg_list::LegList;
 use std::fmt;
 
+/// The legs of a route, and their fare.
 #[derive(Clone, Copy)]
 pub struct Ride {
     /// What the legs take together.

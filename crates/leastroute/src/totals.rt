@@ -7,7 +7,7 @@ use cost::model::CostModel;
 use cost::points::PointsThenSeconds;
 use network::network::Network;
 
-/// The fares of the legs with these numbers, joined. There are at most 63, so that the sums fit.
+// The fares of the legs with these numbers, joined. There are at most 63, so that the sums fit.
 pub(crate) fn fare<N: Network>(network: &N, legs: &[u16]) -> Fare
     requires { length legs.now ≤ 63 }
     ensures { result ≡ fare_of (N.Network.meaning network.now) legs.now }

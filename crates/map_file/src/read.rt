@@ -100,7 +100,8 @@ fn any_record(bytes: &[u8], at: usize) -> Option<(Record<'_>, usize)>
     whole_record(bytes, at, kind)
 }
 
-// The same, as the first of the records from there on.
+// The same, as the first of the records from there on. A function apart, so that this is proved once, of whatever comes,
+// and not at each return.
 pub(crate) fn record_at(bytes: &[u8], at: usize) -> Option<(Record<'_>, usize)>
     ensures value { record_told result ≡ record_at bytes.now at }
     ensures begins { Begins bytes.now at (record_told result) }

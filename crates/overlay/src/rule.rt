@@ -21,7 +21,7 @@ pub trait Rule: Drop {
 /// The network below, with what it shows changed by the rule and all else as it is.
 #[derive(Drop)]
 pub struct Overlay<N, R> {
-    // each call that changes the rule says itself that this stays, in a clause that no name for it would shorten
+    // Each call says itself what it answers and that this stays, in clauses that no name for them would shorten.
     pub(crate) below: N,
     pub(crate) rule: R,
 }

@@ -46,6 +46,3 @@ module _ {E : Type 0} {q mid after : Queue E} where
     taken_is = b.taken_is ∙ a.taken_is;
     gone_is = b.gone_is ∙ a.gone_is;
   }
-
-pub keeps_self : {E : Type 0} (q : Queue E) → Keeps q q
-keeps_self q = record { same_row = record { lent = refl; room_is = refl }; taken_is = refl; gone_is = refl }

@@ -18,13 +18,3 @@ follow_step m first is is' all n i v w h e p q =
     ap (λ x. x ++ follow m first (n - (i + 1)) w) p
     ∙ ap (λ x. (is ++ first v ∷ []) ++ follow m first (n - (i + 1)) x) q
     ∙ append_assoc is (first v ∷ []) (follow m first (n - (i + 1)) (leg_end (m.at (first v)))) ∙ ap (λ x. is ++ follow m first x v) (sym left) ∙ e
-
-pub follow_start : (m : Meaning) (first : ℕ → ℕ) (is : List ℕ) (n v : ℕ) → is ≡ [] → is ++ follow m first (n - 0) v ≡ follow m first n v
-follow_start m first is n v e =
-    let z : n - 0 ≡ n = omega arith in
-    ap (λ x. x ++ follow m first (n - 0) v) e ∙ ap (λ x. follow m first x v) z
-
-pub follow_end : (m : Meaning) (first : ℕ → ℕ) (is all : List ℕ) (n i v : ℕ) → n ≤ i → is ++ follow m first (n - i) v ≡ all → is ≡ all
-follow_end m first is all n i v e h =
-    let z : n - i ≡ 0 = omega arith in
-    sym (append-nil is) ∙ ap (λ x. is ++ follow m first x v) (sym z) ∙ h

@@ -5,7 +5,8 @@ ghost use Rattle.search.specs.Tables.{place};
 
 use search_types::entry::Entry;
 
-// The entries that came out of the queue, and where each station stands among them.
+// The entries that came out of the queue, in the row that is lent, and where each station stands among them, in fixed
+// memory.
 #[derive(Drop)]
 pub(crate) struct CostTable<'t, C> {
     pub(crate) row: &'t [Entry<C>],

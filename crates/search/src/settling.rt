@@ -2,7 +2,8 @@
 use queue::queue::Queue;
 use search_types::entry::Entry;
 
-// The entries that came out of the queue and those that wait, and where each station stands among them.
+// The entries that came out of the queue and those that wait, and where each station stands among them: a row for all
+// stations, since the memory is fixed.
 #[derive(Drop)]
 pub(crate) struct Settling<'q, C> {
     pub(crate) queue: Queue<'q, Entry<C>>,

@@ -106,7 +106,7 @@ fn check_networks<K: CostModel + Copy>(
         cost: model.zero(),
         station: 0,
     };
-    // an array of any model's costs is not known to fit in memory
+    // on the heap: an array that is lent has to fit in memory, which of costs of any type is not known
     let mut workspace = vec![in heap; blank; 8]?;
     let mut dice = Dice { state: 2_026 };
     for turn in 0..120u8 {

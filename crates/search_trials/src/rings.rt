@@ -121,7 +121,7 @@ fn check_round<K: CostModel + Copy>(rt: &impl Abort, heap: Global, model: K) -> 
         cost: model.zero(),
         station: 0,
     };
-    // an array of any model's costs is not known to fit in memory
+    // on the heap: an array that is lent has to fit in memory, which of costs of any type is not known
     let mut workspace = vec![in heap; blank; 64]?;
     check_ring(rt, network, model, &mut workspace);
     check_chain(rt, chain, model, &mut workspace);

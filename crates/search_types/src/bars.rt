@@ -39,12 +39,14 @@ impl Bars {
         self.legs.put(number, true);
     }
 
+    /// Whether a station is barred.
     pub fn bars_station(&self, station: u8) -> bool
         ensures { result ≡ (bars_of self.now).station station }
     {
         self.stations.contains(u16::from(station))
     }
 
+    /// Whether a leg number is barred.
     pub fn bars_leg(&self, number: u16) -> bool
         ensures { result ≡ (bars_of self.now).leg number }
     {

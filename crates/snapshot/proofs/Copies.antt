@@ -56,7 +56,3 @@ shown_fits s (Some l) f =
 
 pub bounded : (m : Meaning) (legs : List (Option Leg)) → Sound m → Copied m legs → Bounded legs
 bounded m legs s copied e l h = omega (arith, s.stations_high, (s.fits e l (sym (copied e) ∙ h)).to_fits)
-
--- a table of the legs of a network means that network
-pub same_meaning : (m : Meaning) (stations count : ℕ) (legs : List (Option Leg)) → stations ≡ m.stations → count ≡ m.legs → Copied m legs → table_meaning stations count legs ≡ m
-same_meaning m stations count legs a b copied = λ t. record { stations = a t; legs = b t; at = λ i. copied i t }

@@ -7,6 +7,7 @@ use network::leg::Leg;
 
 /// The legs by number, and those that arrive at a station as a list in rising leg number: `first` has its head for each
 /// station, and `next` has for each leg the one that follows it.
+// Rows of the largest size, since the memory is fixed. They are made in `Arrivals`, of which no fact holds until its end.
 #[derive(Drop)]
 pub struct Snapshot {
     pub(crate) stations: u8,
