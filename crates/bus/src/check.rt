@@ -14,7 +14,8 @@ fn size_fits(stops: u8, minutes: &[u16]) -> bool
     count_fits(stops) && minutes.len() == usize::from(pair_count(stops))
 }
 
-// Whether an entry may stand at its place. On the diagonal, where row and column are one stop, there is no ride.
+// Whether an entry may stand at its place. On the diagonal, where row and column are one stop, there is no ride. That there
+// is a stop is what the division asks, here and of the callers.
 fn entry_fits(stops: u8, place: usize, minutes: u16) -> bool
     requires { 0 < stops }
     ensures { result ≡ entry_fits stops place minutes }

@@ -12,6 +12,7 @@ impl<'a> Network for Map<'a> {
     ghost sound = { map_sound };
 
     fn station_count(&self) -> u8 {
+        // out of range it stands for the least one, so that every map means a network
         let stations = self.heading().stations;
         if stations_fit(stations) { stations } else { 2 }
     }

@@ -54,6 +54,7 @@ fn put_text(kind: Kind, text: &[u8], out: &mut [u8], at: usize)
     requires short { length text.now < 256 }
     ensures { out.new ≡ spliced out.old at (encode_text kind text.now) }
 {
+    // the text is short, so its length is cast
     let front = [u8::from(kind), text.len() as u8];
     put(&front, out, at);
     put(text, out, at + 2);

@@ -21,6 +21,7 @@ fn least_place<O: Order>(order: &O, entries: &[O::Entry]) -> usize
     best
 }
 
+// Where there may be no room or no entry, a `bool` says so, as std's sets answer: no value stands beside it.
 impl<'a, E: Copy> Queue<'a, E> {
     /// One more entry waits, unless the row is full.
     pub fn insert(&mut self, entry: E) -> bool

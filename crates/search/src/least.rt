@@ -34,7 +34,7 @@ fn clear<C: Copy>(workspace: &mut [Entry<C>], blank: Entry<C>)
     workspace.fill_with(move || blank);
 }
 
-// Searches, and clears the workspace.
+// Searches, and clears the workspace. It is handed one by one what the callers are lent.
 fn search_and_clear<K: CostModel>(
     snapshot: &Snapshot,
     model: &K,

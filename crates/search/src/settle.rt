@@ -55,6 +55,7 @@ impl<'a, K: CostModel> Search<'a, K> {
         };
         match place {
             None => {
+                // below 64, as every place is, so it is cast: a checked conversion would have a case that never comes
                 settling.places[from] = Some(settling.queue.held().len() as u8);
                 let _ = settling.queue.insert(entry);
             }
@@ -88,6 +89,7 @@ impl<'a, K: CostModel> Search<'a, K> {
         ensures stage { Stage (K.CostModel.costs self.now.model.now) self.now (network_of self.now).legs settling.new }
         ensures keeps { Keeps settling.old.queue settling.new.queue }
     {
+        // places are below 64, so they are cast
         let moved = settling.queue.held()[least.place].station;
         settling.places[usize::from(moved)] = Some(least.place as u8);
         settling.places[usize::from(least.entry.station)] = Some((settling.queue.gone() - 1) as u8);

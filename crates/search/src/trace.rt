@@ -11,7 +11,7 @@ use network::network::Network;
 use search_types::leg_list::LegList;
 
 impl<'a, K> Search<'a, K> {
-    // Where a leg ends.
+    // Where a leg ends; 0 where there is none, as the definition has it.
     fn end_of(&self, number: u16) -> u8
         ensures { result ≡ leg_end ((network_of self.now).at number) }
     {
@@ -25,6 +25,7 @@ impl<'a, K> Search<'a, K> {
         ensures { legs_of result ≡ follow (network_of self.now) (first_of labels.now) (hops_of labels.now start) start }
     {
         let mut route = LegList::new();
+        // every station on the way has a label, so that no 0 is ever read
         let mut at = start;
         for _i in 0..labels.labels[usize::from(start)].map_or(0, |label| label.hops) {
             let number = labels.labels[usize::from(at)].map_or(0, |label| label.first);

@@ -35,6 +35,7 @@ impl<'a> Network for Table<'a> {
     }
 
     fn leg_count(&self) -> u16 {
+        // at most 512, so it is cast
         self.legs.len().min(512) as u16
     }
 

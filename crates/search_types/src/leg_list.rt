@@ -24,7 +24,8 @@ impl LegList {
         }
     }
 
-    /// One leg more at the end, unless there are 63. Says whether there was room.
+    /// One leg more at the end, unless there are 63. Whether there was room is a `bool`, as std's sets answer: no value
+    /// stands beside it.
     pub fn push(&mut self, number: u16) -> bool
         ensures answer { result ≡ nat_lt (length (legs_of self.old)) 63 }
         ensures legs { legs_of self.new ≡ (if nat_lt (length (legs_of self.old)) 63 then legs_of self.old ++ number ∷ [] else legs_of self.old) }
