@@ -12,6 +12,7 @@ fn least_place<O: Order>(order: &O, entries: &[O::Entry]) -> usize
     requires { 0 < length entries.now }
     ensures { IsFirstBest (O.Order.less order.now) entries.now (length entries.now) result }
 {
+    // by hand: a library's least takes an order of three outcomes, and would compare each entry twice
     let mut best = 0;
     for (i, entry) in entries.iter().enumerate() {
         if order.comes_before(*entry, entries[best]) {

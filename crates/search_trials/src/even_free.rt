@@ -6,6 +6,7 @@ use network::leg::Leg;
 
 /// Adds the seconds of legs with an odd number of them; every other leg costs nothing, so that a longer way may cost as
 /// much as a part of it.
+// Some answers are those of `Seconds`: a model says itself what it answers, and borrows nothing of another.
 #[derive(Clone, Copy, Debug)]
 pub struct EvenFree;
 

@@ -87,6 +87,7 @@ fn is_better<K: CostModel>(question: &Question<'_, K>, list: &[u16], best: Optio
     (list.len(), list) < (best.len(), best)
 }
 
+// Written again and not taken from the code that is tried.
 fn cost_of<K: CostModel>(question: &Question<'_, K>, list: &[u16]) -> K::Cost {
     let model = &question.model;
     list.iter()

@@ -12,6 +12,7 @@ pub struct Bars {
     legs: NumberSet<8>,
 }
 
+// For stations and for legs each a function: they differ in their set and in the type of a number.
 impl Bars {
     /// Nothing is barred.
     pub fn none() -> Bars
