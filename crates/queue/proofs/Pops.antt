@@ -3,14 +3,28 @@ use Rattle.std.proofs.Common.{◌≡◌, ℕ, ◌+◌, ◌-◌, ◌<◌, ◌≤�
 use lib.Seq.{take-set-lt}
 use Rattle.std.specs.List.{IsFirstBest, swap, AllByRecursion}
 use Rattle.std.specs.List.Sorted.{IsPermutation}
+use Rattle.std.specs.Cmp.{IsStrictWeakOrder}
 use Rattle.std.proofs.lemmas.List.Edits.{swap_is}
 use Rattle.std.proofs.ByRecursion.{All-from_get_or}
 use Rattle.std.proofs.lemmas.List.{length-set, length-drop, get_or-take, get_or-drop, get_or-set_same, get_or-set_other, take_more, take-set-le, drop_more, drop-set-add}
 use Rattle.std.proofs.lemmas.List.Sorted.{IsPermutation-swap}
-use Rattle.std.proofs.lemmas.Bool.{cases_eq}
+use Rattle.std.proofs.lemmas.Bool.{cases_Bool, cases_eq, both_ways}
+use Rattle.queue.specs.Order.{Strict}
 use Rattle.queue.specs.Waiting.{whole, waiting, held, gone, SameRow, Moved, Comes}
+use Rattle.queue.specs.declared.least.Least.{Least}
 use Rattle.queue.specs.declared.queue.Queue.{Queue}
-use Rattle.queue.proofs.Rows.{held_length, waiting_at}
+use Rattle.queue.proofs.Rows.{held_length, waiting_length, waiting_at}
+
+module _ {E : Type 0} (less : E → E → Bool) (o : Strict less) where
+  not_chain : (x y z : E) → less x y ≡ false → less y z ≡ false → less x z ≡ false
+  not_chain x y z p q =
+      ⊎_elim
+      (λ xz. ⊎_elim (λ yx. absurd (both_ways (less y z) q (o.chain y x z yx xz))) (λ yx. subst (λ w. less w z ≡ false) (sym (o.apart x y p yx)) q) (cases_Bool (less y x)))
+      (λ xz. xz)
+      (cases_Bool (less x z))
+
+  pub ranks : IsStrictWeakOrder less
+  ranks = record { one_way = o.one_way; chain = not_chain }
 
 -- x goes to `out` and y to `p`, in a list that has them the other way round
 module _ {E : Type 0} (xs : List E) (out p : ℕ) (low : out ≤ p) (high : p < length xs) (x y : E) (xr : (d : E) → x ≡ get_or xs p d) (yr : (d : E) → y ≡ get_or xs out d) where
@@ -122,3 +136,10 @@ module _ {E : Type 0} (q next : Queue E) (p : ℕ) (low : gone q ≤ p) (high : 
     first = best;
     moved = moved;
   }
+
+-- the same place by place: no entry that waits comes before the one that comes
+pub none_sooner : {E : Type 0} (less : E → E → Bool) (q next : Queue E) (l : Least E) → Comes less q next l → (i : ℕ) (d : E) → gone q ≤ i → i < length (held q) → less (get_or (held q) i d) l.entry ≡ false
+none_sooner less q next l c i d low high =
+    let m = c.moved in
+    let is : get_or (waiting q) (l.place - gone q) d ≡ l.entry = waiting_at q l.place d m.low ∙ sym (m.entry d) in
+    sym (λ k. less (waiting_at q i d low k) (is k)) ∙ c.first.1 (i - gone q) d (omega (arith, waiting_length q))

@@ -12,11 +12,15 @@ fn least_place<O: Order>(order: &O, entries: &[O::Entry]) -> usize
     requires { 0 < length entries.now }
     ensures { IsFirstBest (O.Order.less order.now) entries.now (length entries.now) result }
 {
-    // by hand: a library's least takes an order of three outcomes, and would compare each entry twice
+    // by hand: a library's least takes an order of three outcomes, and would compare each entry twice; by place, so that
+    // where one waits alone nothing is asked
     let mut best = 0;
-    for (i, entry) in entries.iter().enumerate() {
-        if order.comes_before(*entry, entries[best]) {
+    let mut least = entries[0];
+    for i in 1..entries.len() {
+        let entry = entries[i];
+        if order.comes_before(entry, least) {
             best = i;
+            least = entry;
         }
     }
     best
