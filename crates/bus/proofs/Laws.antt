@@ -1,5 +1,5 @@
 -- What is sure of an accepted matrix.
-use Rattle.std.proofs.Common.{◌≡◌, ℕ, ◌+◌, ◌*◌, ◌/◌, ◌%◌, ◌<◌, true, List, length, get_or, sym, ap, ◌∙◌, arith}
+use Rattle.std.proofs.Common.{◌≡◌, ℕ, ◌+◌, ◌*◌, ◌/◌, ◌%◌, ◌<◌, true, List, length, get_or, sym, ap, ◌∙◌, subst, zero-add, arith}
 use Rattle.std.proofs.lemmas.Grind.{common_steps}
 use Rattle.std.proofs.lemmas.Nat.{mul-add-lt, div-mul-add, mod-mul-add}
 use Rattle.bus.specs.Matrices.{ride, stops_of, bus_meaning, size_fits, entry_fits, entries_fit, Accepted}
@@ -21,7 +21,7 @@ module _ (n : ℕ) (minutes : List ℕ) (size : size_fits n minutes ≡ true) (e
     place_inside = mul-add-lt from n to n a b
 
     place_fits : entry_fits n (from * n + to) (get_or minutes (from * n + to) 0) ≡ true
-    place_fits = each_fits n minutes entries (from * n + to) (omega (arith, place_inside, long))
+    place_fits = subst (λ j. entry_fits n j (get_or minutes (from * n + to) 0) ≡ true) (zero-add (from * n + to)) (each_fits n 0 minutes entries (from * n + to) (omega (arith, place_inside, long)))
 
     ride_found : (bus_meaning n minutes).at (from * n + to) ≡ ride from to (get_or minutes (from * n + to) 0)
     ride_found =

@@ -1,7 +1,7 @@
 -- One record more, written where it stood.
 use Rattle.std.proofs.Common.{◌≡◌, ℕ, ◌+◌, ◌≤◌, true, false, ltb, ◌⊎◌, List, ◌++◌, length, get_or, take, drop, Some, None, Ok, Err, Option, sym, refl, ap, ◌∙◌, inl, inr, zero-add, arith, length-append}
 use Rattle.std.proofs.lemmas.List.{take_at}
-use Rattle.std.proofs.lemmas.Bool.{cases_Bool, cond-true, cond-false}
+use Rattle.std.proofs.lemmas.Bool.{cases_Bool, cond-true, cond-false, le-ltb}
 use Rattle.network.specs.Shown.{nothing}
 use Rattle.network.specs.declared.refusal.Refusal.{Refusal}
 use Rattle.network.specs.declared.refusal.Refusal.TheVariants.{ShortBuffer}
@@ -38,11 +38,13 @@ module _ (w : Records) (p : Placed) (v : Records) (t : TakesFirst w p v) where
       ∙ ap (spliced out w.at) (sym encoded_step)
 
 -- the heading and the records behind it
-pub rewritten : (h : Heading) (rs out once twice : List ℕ) (n : ℕ) → n ≡ 8 + length rs → n ≤ length out → once ≡ spliced out 0 (encode_heading h) → twice ≡ spliced once 8 rs → twice ≡ buffer_after (Ok n) (encode_heading h ++ rs) out
+pub rewritten : (h : Heading) (rs out once twice : List ℕ) (n : ℕ) → n ≡ 8 + length rs → n ≤ length out → once ≡ spliced out 0 (encode_heading h) → twice ≡ spliced once 8 rs → (Ok n ≡ write_answer None (encode_heading h ++ rs) out) × (twice ≡ buffer_after (Ok n) (encode_heading h ++ rs) out)
 rewritten h rs out once twice n long room a b =
     let all = encode_heading h ++ rs in
-    let same : length all ≡ n = length-append (encode_heading h) rs ∙ sym long in
-    b ∙ ap (λ (l : List ℕ). spliced l 8 rs) a ∙ splice_behind out 0 8 (encode_heading h) rs refl (omega arith) ∙ ap (λ k. all ++ drop k out) (zero-add (length all) ∙ same)
+    let same : length all ≡ n = length-append (encode_heading h) rs ∙ sym long in (
+      ap Ok (sym same) ∙ sym (cond-false (ltb (length out) (length all)) (Err ShortBuffer) (Ok (length all)) (le-ltb (length out) (length all) (omega arith))),
+      b ∙ ap (λ (l : List ℕ). spliced l 8 rs) a ∙ splice_behind out 0 8 (encode_heading h) rs refl (omega arith) ∙ ap (λ k. all ++ drop k out) (zero-add (length all) ∙ same),
+    )
 
 -- what is written is all the bytes, and the buffer then begins with them
 pub written_all : (o : Option Refusal) (bytes out : List ℕ) (n : ℕ) → Ok n ≡ write_answer o bytes out → n ≡ length bytes

@@ -15,4 +15,5 @@ returns-clause-after c =
     let rs = encode_records (records_from c.args.bytes.now 8) in
     let size = rw (all.bytes, all.at) at c.end_of-size.ensures in
     let put = rw (all.bytes, all.at) at c.put_records.ensures in
-    rewritten c.args.heading rs c.args.out.now c.put_heading.new.out c.put_records.new.out c.end_of-size.result size c.if-out-size.false c.put_heading.ensures put
+    let w = rewritten c.args.heading rs c.args.out.now c.put_heading.new.out c.put_records.new.out c.end_of-size.result size c.if-out-size.false c.put_heading.ensures put in
+    w.1
