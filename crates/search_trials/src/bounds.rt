@@ -46,42 +46,47 @@ type Case = (
     Result<&'static [u16], Refusal>,
 );
 
+// The first numbers past all stations and all legs: to bar them changes nothing.
+const PAST_STATIONS: Option<u8> = Some(64);
+
+const PAST_LEGS: Option<u16> = Some(512);
+
 const CASES: [Case; 28] = [
     // of two parallel legs the lower number; the self-loop is never used
-    (0, 1, None, None, 10, Ok(&[1])),
-    (0, 1, None, Some(1), 10, Ok(&[2])),
-    (0, 1, None, Some(0), 10, Ok(&[1])),
+    (0, 1, PAST_STATIONS, PAST_LEGS, 10, Ok(&[1])),
+    (0, 1, PAST_STATIONS, Some(1), 10, Ok(&[2])),
+    (0, 1, PAST_STATIONS, Some(0), 10, Ok(&[1])),
     // at equal cost fewer legs
-    (0, 2, None, None, 10, Ok(&[4])),
-    (0, 2, None, Some(4), 10, Ok(&[1, 3])),
+    (0, 2, PAST_STATIONS, PAST_LEGS, 10, Ok(&[4])),
+    (0, 2, PAST_STATIONS, Some(4), 10, Ok(&[1, 3])),
     // at equal cost and as many legs the lower number at the first difference
-    (0, 3, None, None, 10, Ok(&[1, 6])),
-    (0, 3, None, Some(1), 10, Ok(&[2, 6])),
-    (0, 3, Some(1), None, 10, Ok(&[4, 5])),
-    (0, 4, Some(2), None, 10, Ok(&[1, 6, 8])),
-    (0, 4, None, Some(6), 10, Ok(&[4, 5, 8])),
+    (0, 3, PAST_STATIONS, PAST_LEGS, 10, Ok(&[1, 6])),
+    (0, 3, PAST_STATIONS, Some(1), 10, Ok(&[2, 6])),
+    (0, 3, Some(1), PAST_LEGS, 10, Ok(&[4, 5])),
+    (0, 4, Some(2), PAST_LEGS, 10, Ok(&[1, 6, 8])),
+    (0, 4, PAST_STATIONS, Some(6), 10, Ok(&[4, 5, 8])),
     // nothing leads there, or all that does is barred
-    (4, 0, None, None, 10, Err(NoFurtherRoute)),
-    (0, 4, None, Some(8), 10, Err(NoFurtherRoute)),
-    (0, 4, Some(3), None, 10, Err(NoFurtherRoute)),
-    (0, 4, Some(0), None, 10, Err(NoFurtherRoute)),
-    (0, 4, Some(4), None, 10, Err(NoFurtherRoute)),
-    // there is no station 64 and no leg 512 to bar
+    (4, 0, PAST_STATIONS, PAST_LEGS, 10, Err(NoFurtherRoute)),
+    (0, 4, PAST_STATIONS, Some(8), 10, Err(NoFurtherRoute)),
+    (0, 4, Some(3), PAST_LEGS, 10, Err(NoFurtherRoute)),
+    (0, 4, Some(0), PAST_LEGS, 10, Err(NoFurtherRoute)),
+    (0, 4, Some(4), PAST_LEGS, 10, Err(NoFurtherRoute)),
+    // there is no station 64 and no leg 512 to bar, each by itself
     (0, 4, Some(64), None, 10, Ok(&[1, 6, 8])),
     (0, 4, None, Some(512), 10, Ok(&[1, 6, 8])),
     // workspaces about the count of stations
-    (0, 4, None, None, 5, Ok(&[1, 6, 8])),
-    (0, 4, None, Some(8), 5, Err(NoFurtherRoute)),
-    (0, 4, None, None, 4, Err(ShortWorkspace)),
-    (0, 4, Some(4), None, 0, Err(ShortWorkspace)),
+    (0, 4, PAST_STATIONS, PAST_LEGS, 5, Ok(&[1, 6, 8])),
+    (0, 4, PAST_STATIONS, Some(8), 5, Err(NoFurtherRoute)),
+    (0, 4, PAST_STATIONS, PAST_LEGS, 4, Err(ShortWorkspace)),
+    (0, 4, Some(4), PAST_LEGS, 0, Err(ShortWorkspace)),
     // the order of the refusals
-    (4, 4, Some(4), None, 4, Err(SameStation)),
-    (4, 4, None, None, 10, Err(SameStation)),
-    (5, 5, None, None, 4, Err(NoSuchStation)),
-    (5, 0, None, None, 4, Err(NoSuchStation)),
-    (0, 5, Some(0), None, 10, Err(NoSuchStation)),
-    (0, 64, None, None, 10, Err(NoSuchStation)),
-    (255, 255, None, None, 0, Err(NoSuchStation)),
+    (4, 4, Some(4), PAST_LEGS, 4, Err(SameStation)),
+    (4, 4, PAST_STATIONS, PAST_LEGS, 10, Err(SameStation)),
+    (5, 5, PAST_STATIONS, PAST_LEGS, 4, Err(NoSuchStation)),
+    (5, 0, PAST_STATIONS, PAST_LEGS, 4, Err(NoSuchStation)),
+    (0, 5, Some(0), PAST_LEGS, 10, Err(NoSuchStation)),
+    (0, 64, PAST_STATIONS, PAST_LEGS, 10, Err(NoSuchStation)),
+    (255, 255, PAST_STATIONS, PAST_LEGS, 0, Err(NoSuchStation)),
 ];
 
 #[test]
@@ -98,9 +103,12 @@ fn at_bounds(rt: HostRuntime) -> Result<(), Fail> {
     let mut route = LegList::new();
     for (start, goal, station, leg, places, expected) in CASES {
         let mut question = Question::new(network, Seconds, start, goal);
-        // with none to bar, the first number past the last is barred, which changes nothing either
-        question.bars.bar_station(station.unwrap_or(64));
-        question.bars.bar_leg(leg.unwrap_or(512));
+        if let Some(station) = station {
+            question.bars.bar_station(station);
+        }
+        if let Some(leg) = leg {
+            question.bars.bar_leg(leg);
+        }
         assert!(rt; places <= 10);
         question.check(&rt, &mut workspace[..places], &mut route, expected);
         let tried = answer_by_trial(rt.alloc(), &question, places)?;
